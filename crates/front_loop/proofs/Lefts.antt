@@ -1,6 +1,7 @@
 -- A connection is left, and all else.
-use Rattle.std.proofs.Common.{◌≡◌, ◌+◌, ◌-◌, ◌^◌, ℕ, suc, Bool, true, false, cond, List, [], ◌∷◌, ◌++◌, min, take, drop, Option, option_map, refl, sym, ap, subst, ◌∙◌, arith}
-use Rattle.farm_history.specs.Lists.{Each}
+use Rattle.std.proofs.Common.{◌≡◌, ◌==◌, ◌+◌, ◌-◌, ◌^◌, ℕ, suc, Bool, true, false, not, ◌||◌, cond, List, [], ◌∷◌, ◌++◌, min, take, drop, Option, Some, None, option_map, refl, sym, ap, subst, ◌∙◌, arith}
+use Rattle.std.specs.Prelude.{◌≢◌}
+use Rattle.farm_history.specs.Lists.{Each, without_first}
 use Rattle.farm_history.specs.Entries.{Entry, Leave}
 use Rattle.port_events.specs.declared.events.PortEvent.{PortEvent}
 use Rattle.port_events.specs.Told.{PortsTold, IsOpen, after_close}
@@ -9,34 +10,18 @@ use Rattle.front_loop.specs.declared.dispositions.Disposition.TheVariants.{Stays
 use Rattle.front_loop.specs.declared.dispositions.Reason.{Reason}
 use Rattle.front_loop.specs.declared.dispositions.Reason.TheVariants as reason
 use Rattle.front_loop.specs.declared.sessions.Session.{Session}
-use Rattle.front_loop.specs.Rules.{Rules, Move}
-use Rattle.front_loop.specs.inner.Steps.{Left, Phase, Fresh, Hearing, Collecting, Offering, Leaving, phase, leaving, IsThrough, there, starved_in, remove}
-use Rattle.front_loop.specs.Rounds.{has, with_starved}
-use Rattle.front_loop.specs.inner.Parts.{Part, part, is_open, told_after}
-use Rattle.front_loop.specs.inner.Sound.{LastTry, AskedAll}
-use Rattle.front_loop.specs.inner.StepRuns.{EndsAt}
+use Rattle.front_loop.specs.Rules.{EachSoFar, Rules, Move}
+use Rattle.front_loop.specs.Rounds.{Send, Departure, FrontRound, has, gone, there, starved_in, with_starved}
+use Rattle.front_loop.specs.Conns.{Standing, conn, before, made, is_open, closes, MayLack, InHearing, AtReply, AtOffer, told_after}
+use Rattle.front_loop.specs.RoundRules.{SendFits, IsStarved, LeaveFits, RoundFits}
 use Rattle.front_loop.specs.Front.{keeps}
 use Rattle.front_loop.specs.inner.Sessions.{conns, Apart, StandsAt, IsLeaving, is_up, asks_all}
-use Rattle.front_loop.specs.inner.Stands.{World, IsAtRest, DispositionFits, Sits}
-use Rattle.front_loop.specs.inner.Stages.{OwesNone, CanLeave, IsOver, Shuts}
-use Rattle.front_loop.proofs.Tables.{other, has_at, conns_less, each_less, each_at, each_both, each_weaker, apart_remove}
+use Rattle.front_loop.specs.inner.Stands.{World, IsAtRest, AllAsked, DispositionFits, Keeping, Sits, Makes}
+use Rattle.front_loop.specs.inner.Stages.{leaving, OwesNone, CanLeave, IsOver, Shuts}
+use Rattle.front_loop.proofs.Tables.{other, remove, remove_is, has_at, conns_less, each_less, each_at, each_both, each_weaker, apart_remove}
 use Rattle.front_loop.proofs.Rests.{other_without, keys_without}
-use Rattle.front_loop.proofs.Sitting.{others}
+use Rattle.front_loop.proofs.Sitting.{clash, closes_again, starved_again, others, sits_again}
 use Rattle.front_loop.proofs.Worlds.{told_more, open_by}
-
-through_at : (e : PortEvent) (stopped : Bool) (ph : Phase) → EndsAt e stopped ph → IsThrough ph
-through_at e stopped (Offering f x) h = tt
-through_at e stopped (Leaving f x) h = tt
-through_at e stopped Fresh h = absurd h
-through_at e stopped (Hearing f) h = absurd h
-through_at e stopped (Collecting f) h = absurd h
-
-leaving_at : (e : PortEvent) (stopped : Bool) (ph : Phase) → EndsAt e stopped ph → EndsAt e stopped (leaving ph)
-leaving_at e stopped (Offering f x) h = h
-leaving_at e stopped (Leaving f x) h = h
-leaving_at e stopped Fresh h = absurd h
-leaving_at e stopped (Hearing f) h = absurd h
-leaving_at e stopped (Collecting f) h = absurd h
 
 one_less : (i : ℕ) → i + 1 ≡ suc i
 one_less i = omega arith
@@ -69,74 +54,137 @@ shut_open : (told told' : Option PortsTold) (c d : ℕ) (u : Bool) → (u ≡ tr
 shut_open told told' c d true f k n o = open_by told told' (after_close c) d (f refl) (λ t. ap (λ b. cond b false (t.is_open d)) (other d c n)) o
 shut_open told told' c d false f k n o = subst (IsOpen d) (sym (k refl)) o
 
-module _ {A W T : Type 0} (R : Rules A W) (K : List ℕ → List (Move A) → T → Type 0) where
-  last_by : (told : Option PortsTold) (box : List (ℕ × List ℕ)) (p : Part A) (s : Session T) (why : Reason) → Sits R K told box p s → s.disposition ≡ Leaves why → OwesNone s → LastTry R p why
-  last_by told box p s reason.Unread h e n = let k = ap keeps e in (h.keeping k).offered (n k)
-  last_by told box p s reason.Ended h e n = tt
-  last_by told box p s reason.Lost h e n = tt
-  last_by told box p s reason.Cut h e n = tt
-  last_by told box p s reason.Full h e n = tt
-  last_by told box p s reason.SentWhole h e n = tt
-  last_by told box p s reason.SendFailed h e n = tt
-  last_by told box p s reason.NoMemory h e n = tt
-  last_by told box p s reason.Starved h e n = tt
+module _ {A W : Type 0} (R : Rules A W) where
+  -- ---- what was said of a round is said of it as it grows
 
-  asked_by : (told : Option PortsTold) (box : List (ℕ × List ℕ)) (p : Part A) (s : Session T) (why : Reason) → Sits R K told box p s → s.disposition ≡ Leaves why → AskedAll R p why
-  asked_by told box p s reason.Full h e = tt
-  asked_by told box p s reason.NoMemory h e = tt
-  asked_by told box p s reason.Starved h e = tt
-  asked_by told box p s reason.Ended h e = h.asked_all (ap asks_all e)
-  asked_by told box p s reason.Lost h e = h.asked_all (ap asks_all e)
-  asked_by told box p s reason.Cut h e = h.asked_all (ap asks_all e)
-  asked_by told box p s reason.Unread h e = h.asked_all (ap asks_all e)
-  asked_by told box p s reason.SentWhole h e = h.asked_all (ap asks_all e)
-  asked_by told box p s reason.SendFailed h e = h.asked_all (ap asks_all e)
+  pub resend : (rs : List (FrontRound A)) (r : FrontRound A) (sends' : List Send) (left' : List Departure) (ss : List Send) → EachSoFar (SendFits R rs r) ss
+      → EachSoFar (SendFits R rs (record r { sends = sends'; left = left' })) ss
+  resend rs r sends' left' [] h = tt
+  resend rs r sends' left' (s ∷ ss) h =
+      (record { is_there = h.0.is_there; reason = h.0.reason; once = h.0.once; some = h.0.some; most = h.0.most }, resend rs r sends' left' ss h.1)
+
+  releave : (rs : List (FrontRound A)) (r : FrontRound A) (left' : List Departure) (ds : List Departure) → EachSoFar (LeaveFits R rs r) ds
+      → EachSoFar (LeaveFits R rs (record r { left = left' })) ds
+  releave rs r left' [] h = tt
+  releave rs r left' (d ∷ ds) h = (
+    record {
+      is_there = h.0.is_there;
+      caused = λ n. closes_again R (before rs r d.conn) r d.conn r.acts r.replies r.last left' (made r d.conn) d.why ∙ h.0.caused n;
+      starved = λ q. starved_again R (before rs r d.conn) r d.conn r.replies left' refl (h.0.starved q);
+      last_try = h.0.last_try;
+      asked_all = h.0.asked_all;
+    },
+    releave rs r left' ds h.1,
+  )
+
+  -- ---- why a connection is left
+
+  caused_by : (p : Standing A) (r : FrontRound A) (c : ℕ) (left' : List Departure) (why : Reason) → DispositionFits R p r c (made r c) (Leaves why) → why ≢ reason.Starved
+      → closes R p (record r { left = left' }) c (made r c) why ≡ true
+  caused_by p r c left' reason.Ended h n = h
+  caused_by p r c left' reason.Lost h n = h
+  caused_by p r c left' reason.Cut h n = h
+  caused_by p r c left' reason.Full h n = h
+  caused_by p r c left' reason.Unread h n = h
+  caused_by p r c left' reason.SentWhole h n = h
+  caused_by p r c left' reason.SendFailed h n = h
+  caused_by p r c left' reason.NoMemory h n = h
+  caused_by p r c left' reason.Starved h n = absurd (n refl)
+
+  starved_by : (p : Standing A) (r : FrontRound A) (c : ℕ) (left' : List Departure) (why : Reason) → DispositionFits R p r c (made r c) (Leaves why) → why ≡ reason.Starved
+      → IsStarved R p (record r { left = left' }) c
+  starved_by p r c left' why h e = starved_again R p r c r.replies left' refl (let k = subst (λ x. DispositionFits R p r c (made r c) (Leaves x)) e h in k.starved)
+
+  asks_by : (why : Reason) → why ≢ reason.Full → why ≢ reason.NoMemory → why ≢ reason.Starved → asks_all (Leaves why) ≡ true
+  asks_by reason.Full f m s = absurd (f refl)
+  asks_by reason.NoMemory f m s = absurd (m refl)
+  asks_by reason.Starved f m s = absurd (s refl)
+  asks_by reason.Ended f m s = refl
+  asks_by reason.Lost f m s = refl
+  asks_by reason.Cut f m s = refl
+  asks_by reason.Unread f m s = refl
+  asks_by reason.SentWhole f m s = refl
+  asks_by reason.SendFailed f m s = refl
+
+module _ {A W T : Type 0} (R : Rules A W) (K : List ℕ → List (Move A) → T → Type 0) where
+  -- a session that leaves is left as it may be
+  leaves_fit : (rs : List (FrontRound A)) (r : FrontRound A) (d : Departure) (s : Session T) (told : Option PortsTold) (box : List (ℕ × List ℕ))
+      → Sits R K (before rs r d.conn) r d.conn (made r d.conn) s told box → s.disposition ≡ Leaves d.why → OwesNone s → has (there (r ∷ rs)) d.conn ≡ true
+      → LeaveFits R rs (record r { left = d ∷ r.left }) r.left d
+  leaves_fit rs r d s told box h f n t =
+      let fits : DispositionFits R (before rs r d.conn) r d.conn (made r d.conn) (Leaves d.why) = subst (DispositionFits R (before rs r d.conn) r d.conn (made r d.conn)) f h.disposition_fits in
+      record {
+        is_there = t;
+        caused = caused_by R (before rs r d.conn) r d.conn (d ∷ r.left) d.why fits;
+        starved = starved_by R (before rs r d.conn) r d.conn (d ∷ r.left) d.why fits;
+        last_try = λ u. let k = ap keeps (f ∙ ap Leaves u) in (h.keeping k).nothing_due (n k);
+        asked_all = λ a b c. h.asked_all (ap asks_all f ∙ asks_by R d.why a b c);
+      }
 
   -- the connection of the session at this place is left
-  pub left_one : (e : PortEvent) (stopped : Bool) (start told' : Option PortsTold) (w : World T) (i : ℕ) (s : Session T) (asks : ℕ) (why : Reason) (mine' : List Entry) (starved' : ℕ)
+  left_one : (e : PortEvent) (stopped : Bool) (start told' : Option PortsTold) (w : World T) (i : ℕ) (s : Session T) (asks : ℕ) (why : Reason) (mine' : List Entry) (starved' : ℕ)
       → CanLeave R K e stopped start w → StandsAt w.sessions i s → s.disposition ≡ Leaves why → mine' ≡ w.mine ++ Leave (record { front = R.number; number = s.conn }) asks ∷ []
       → Shuts s.conn why w.told told' → starved' ≡ min (with_starved w.starved why) (2 ^ 64 - 1)
       → CanLeave R K e stopped start (record { told = told'; mine = mine'; sessions = take i w.sessions ++ drop (suc i) w.sessions; box = without w.box s.conn; starved = starved' })
   left_one e stopped start told' w i s asks why mine' starved' h at f m sh n =
-      let st = h.stands in
-      let p = part R h.steps s.conn in
-      let sits = each_at (λ (x : Session T). Sits R K w.told w.box (part R h.steps x.conn) x) w.sessions i s at st.each in
-      let up : is_open p ≡ is_up (Leaves why) = sits.up ∙ ap is_up f in
-      let is_there : has (there h.steps) s.conn ≡ true = ap (λ cs. has cs s.conn) (sym st.conns_are) ∙ has_at w.sessions i s at in
+      let rs = h.rounds in
+      let r = h.round in
+      let st = h.makes.stands in
+      let ar = st.are_told in
+      let d : Departure = record { conn = s.conn; asks = asks; why = why } in
+      let r' : FrontRound A = record r { left = d ∷ r.left } in
+      let sits = each_at (λ (x : Session T). Sits R K (before rs r x.conn) r x.conn (made r x.conn) x w.told w.box) w.sessions i s at h.makes.each in
+      let up : is_open r s.conn ≡ is_up (Leaves why) = sits.up ∙ ap is_up f in
+      let is_there : has (there (r ∷ rs)) s.conn ≡ true = ap (λ cs. has cs s.conn) (sym st.conns_are) ∙ has_at w.sessions i s at in
+      let fewer : remove (there (r ∷ rs)) s.conn ≡ there (r' ∷ rs) = remove_is (there (r ∷ rs)) s.conn in
+      let fit = ar.sound.0 in
       record {
-        steps = Left s.conn asks why ∷ h.steps;
-        stands = record {
-          entries = m ∙ ap (λ es. es ++ Leave (record { front = R.number; number = s.conn }) asks ∷ []) st.entries;
-          telling = shut_told start w.told told' s.conn (told_after R h.steps) (is_open p) st.telling (λ u. sh.0 (sym up ∙ u)) (λ u. sh.1 (sym up ∙ u));
-          coming = st.coming;
-          conns_are = conns_less w.sessions i s at st.apart ∙ ap (λ cs. remove cs s.conn) st.conns_are;
-          keys_are = keys_without w.box s.conn ∙ ap (λ cs. remove cs s.conn) st.keys_are;
-          sound = (
-            record {
-              time = through_at e stopped (phase h.steps) h.time;
-              is_there = is_there;
-              caused = subst (DispositionFits R p) f sits.disposition_fits;
-              last_try = last_by w.told w.box p s why sits f (each_at OwesNone w.sessions i s at h.offered);
-              asked_all = asked_by w.told w.box p s why sits f;
-            },
-            st.sound,
-          );
-          counted = n ∙ ap (λ k. min (with_starved k why) (2 ^ 64 - 1)) st.counted ∙ counted_more (starved_in h.steps) why;
-          apart = subst Apart (sym (conns_less w.sessions i s at st.apart)) (apart_remove (conns w.sessions) s.conn st.apart);
-          each = each_less (λ (x : Session T). Sits R K w.told w.box (part R h.steps x.conn) x) (λ (x : Session T). Sits R K told' (without w.box s.conn) (part R h.steps x.conn) x) w.sessions i s at st.apart
-              st.each (λ x ne q. others R K w.told told' w.box (without w.box s.conn) (part R h.steps x.conn) x q (other_without w.box s.conn x.conn (λ e. ne (sym e)))
+        rounds = rs;
+        round = r';
+        event_is = h.event_is;
+        last_is = h.last_is;
+        makes = record {
+          stands = record {
+            are_told = record {
+              entries = m ∙ ap (λ es. es ++ Leave (record { front = R.number; number = s.conn }) asks ∷ []) ar.entries;
+              telling = shut_told start w.told told' s.conn (told_after R (r ∷ rs)) (is_open r s.conn) ar.telling (λ u. sh.0 (sym up ∙ u)) (λ u. sh.1 (sym up ∙ u));
+              coming = ar.coming;
+              sound = (
+                record {
+                  follows = fit.follows;
+                  begins = fit.begins;
+                  room = fit.room;
+                  asks = fit.asks;
+                  fits = fit.fits;
+                  order = λ q. let x = sym h.last_is ∙ q in cc;
+                  sends = resend R rs r r.sends (d ∷ r.left) r.sends fit.sends;
+                  left = (leaves_fit rs r d s w.told w.box sits f (each_at OwesNone w.sessions i s at h.offered) is_there, releave R rs r (d ∷ r.left) r.left fit.left);
+                },
+                ar.sound.1,
+              );
+              counted = n ∙ ap (λ k. min (with_starved k why) (2 ^ 64 - 1)) ar.counted ∙ counted_more (starved_in (r ∷ rs)) why;
+            };
+            conns_are = conns_less w.sessions i s at st.apart ∙ ap (λ cs. remove cs s.conn) st.conns_are ∙ fewer;
+            keys_are = keys_without w.box s.conn ∙ ap (λ cs. remove cs s.conn) st.keys_are ∙ fewer;
+            apart = subst Apart (sym (conns_less w.sessions i s at st.apart)) (apart_remove (conns w.sessions) s.conn st.apart);
+          };
+          each = each_less (λ (x : Session T). Sits R K (before rs r x.conn) r x.conn (made r x.conn) x w.told w.box)
+              (λ (x : Session T). Sits R K (before rs r x.conn) r' x.conn (made r x.conn) x told' (without w.box s.conn)) w.sessions i s at st.apart
+              h.makes.each (λ x ne q. others R K (before rs r x.conn) r' x.conn (made r x.conn) x w.told told' w.box (without w.box s.conn)
+              (sits_again R K (before rs r x.conn) r x.conn r.replies (d ∷ r.left) refl (made r x.conn) x w.told w.box q) (other_without w.box s.conn x.conn (λ e. ne (sym e)))
               (shut_open w.told told' s.conn x.conn (is_up (Leaves why)) sh.0 sh.1 ne));
         };
-        time = leaving_at e stopped (phase h.steps) h.time;
         offered = each_less OwesNone OwesNone w.sessions i s at st.apart h.offered (λ x ne q. q);
       }
 
   -- none leaves any more
   pub over : (e : PortEvent) (stopped : Bool) (start : Option PortsTold) (w : World T) → CanLeave R K e stopped start w → Each (λ (s : Session T). s.disposition ≡ Stays) w.sessions → IsOver R K e stopped start w
   over e stopped start w h n = record {
-    steps = h.steps;
-    stands = h.stands;
-    time = h.time;
+    rounds = h.rounds;
+    round = h.round;
+    event_is = h.event_is;
+    last_is = h.last_is;
+    makes = h.makes;
     rested = each_weaker (λ (s : Session T). OwesNone s × (s.disposition ≡ Stays)) IsAtRest w.sessions (λ s b. (b.1, b.0 (ap keeps b.1)))
         (each_both OwesNone (λ (s : Session T). s.disposition ≡ Stays) w.sessions h.offered n);
   }

@@ -3,9 +3,8 @@ use Rattle.std.proofs.Common.{◌≡◌, ◌==◌, ℕ, Bool, true, false, cond,
 use Rattle.std.proofs.lemmas.Bool.{eqb-true}
 use Rattle.port_events.specs.Boxes.{rest_at, put_rest, without, HasRest}
 use Rattle.front_loop.specs.Rounds.{has}
-use Rattle.front_loop.specs.inner.Steps.{remove}
 use Rattle.front_loop.specs.inner.Sessions.{keys}
-use Rattle.front_loop.proofs.Tables.{other, same}
+use Rattle.front_loop.proofs.Tables.{other, same, remove}
 
 both : (b : Bool) (x y : Option (List ℕ)) (v w : List ℕ) → b ≡ false → x ≡ y → cond b (Some v) x ≡ cond b (Some w) y
 both b x y v w e h = ap (λ b. cond b (Some v) x) e ∙ h ∙ sym (ap (λ b. cond b (Some w) y) e)

@@ -4,14 +4,23 @@ use Rattle.std.proofs.lemmas.Bool.{eqb-true, eq-eqb, ne_eqb, ltb-true}
 use Rattle.std.specs.List.{position, position_or_len}
 use Rattle.std.proofs.lemmas.Bool.Decides.{nat_tests}
 use Rattle.std.proofs.lemmas.List.Recursion.{is_position_or_len}
-use Rattle.farm_history.specs.Lists.{Each}
+use Rattle.farm_history.specs.Lists.{Each, without_first}
 use Rattle.front_loop.specs.declared.dispositions.Disposition.{Disposition}
 use Rattle.front_loop.specs.declared.dispositions.Disposition.TheVariants.{Stays, Leaves}
 use Rattle.front_loop.specs.declared.dispositions.Reason.{Reason}
 use Rattle.front_loop.specs.declared.sessions.Session.{Session}
 use Rattle.front_loop.specs.Rounds.{has}
-use Rattle.front_loop.specs.inner.Steps.{remove}
 use Rattle.front_loop.specs.inner.Sessions.{conns, Apart, StandsAt, HasConn, IsLeaving, StaysOn, leaves, woken}
+
+-- a list of connections without the first of that number
+abbrev pub remove : List ℕ → ℕ → List ℕ
+remove [] c = []
+remove (d ∷ ds) c = cond (d == c) ds (d ∷ remove ds c)
+
+pub remove_is : (cs : List ℕ) (c : ℕ) → remove cs c ≡ without_first (λ d. d == c) cs
+unfolding without_first
+remove_is [] c = refl
+remove_is (d ∷ ds) c = ap (λ l. cond (d == c) ds (d ∷ l)) (remove_is ds c)
 
 -- a number by its test
 pub same : (n : ℕ) → (n == n) ≡ true

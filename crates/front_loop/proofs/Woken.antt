@@ -8,13 +8,10 @@ use Rattle.port_events.specs.Told.{PortsTold}
 use Rattle.front_loop.specs.declared.sessions.Session.{Session}
 use Rattle.front_loop.specs.declared.sessions.SessionTable.{SessionTable}
 use Rattle.front_loop.specs.inner.Sessions.{woken}
-use Rattle.front_loop.specs.inner.Stands.{World, world}
+use Rattle.front_loop.specs.inner.Stands.{World}
 
 one_more : (i : ℕ) → suc i ≡ i + 1
 one_more i = omega arith
-
-abbrev world_by : {T : Type 0} → Option PortsTold → List Entry → List (Session T) → List (ℕ × List ℕ) → ℕ → World T
-world_by told mine sessions box starved = record { told = told; mine = mine; sessions = sessions; box = box; starved = starved }
 
 module _ {T : Type 0} where
   -- so many are woken, and the others as they were
@@ -44,10 +41,12 @@ module _ {T : Type 0} where
       let k = v.ok.0 in
       with_items_is v ws (omega (arith, l, k)) ∙ e
 
-  -- all that the steps are told by, where all sessions were woken
-  pub world_woken : (told : Option PortsTold) (mine : List Entry) (old new : SessionTable T) → new.sessions.items ≡ map woken old.sessions.items → new.outbox ≡ old.outbox → new.starved ≡ old.starved
-      → world told mine new ≡ record (world told mine old) { sessions = map woken old.sessions.items }
+  -- all that rounds are told by, where all sessions of a table were woken
+  pub world_woken : (told : Option PortsTold) (mine : List Entry) (old new : SessionTable T) → new.sessions.items ≡ map woken old.sessions.items → new.answers.outbox ≡ old.answers.outbox
+      → new.starved ≡ old.starved
+      → ◌≡◌ {A = World T} (record { told = told; mine = mine; sessions = new.sessions.items; box = new.answers.outbox; starved = new.starved })
+      (record { told = told; mine = mine; sessions = map woken old.sessions.items; box = old.answers.outbox; starved = old.starved })
   world_woken told mine old new se be te =
-      ap (λ (xs : List (Session T)). world_by told mine xs new.outbox new.starved) se
-      ∙ ap (λ (b : List (ℕ × List ℕ)). world_by told mine (map woken old.sessions.items) b new.starved) be
-      ∙ ap (λ (n : ℕ). world_by told mine (map woken old.sessions.items) old.outbox n) te
+      ap (λ (xs : List (Session T)). record { told = told; mine = mine; sessions = xs; box = new.answers.outbox; starved = new.starved }) se
+      ∙ ap (λ (b : List (ℕ × List ℕ)). record { told = told; mine = mine; sessions = map woken old.sessions.items; box = b; starved = new.starved }) be
+      ∙ ap (λ (n : ℕ). record { told = told; mine = mine; sessions = map woken old.sessions.items; box = old.answers.outbox; starved = n }) te

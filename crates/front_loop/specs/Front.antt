@@ -6,6 +6,7 @@ use Rattle.farm_base.specs.declared.turns.Worn.{Worn}
 use Rattle.front_loop.specs.declared.dispositions.Disposition.{Disposition}
 use Rattle.front_loop.specs.declared.dispositions.Disposition.TheVariants.{Stays, Leaves}
 use Rattle.front_loop.specs.declared.dispositions.Reason.TheVariants as reason
+use Rattle.front_loop.specs.Calls.{Seats}
 use Rattle.front_loop.specs.Rules.{Rules, Move, Does, Gets, wants_of, answer_bytes, each_whole, any_starves, BeginsWanted}
 
 -- the bytes of a connection are still kept and answered: it stays, or is left once they were offered
@@ -81,6 +82,10 @@ module _ {A W T : Type 0} (R : Rules A W) (K : List ℕ → List (Move A) → T 
       (given : List ℕ) (ms : List (Move A)) → K given ms conn_state → R.wanted given (wants_of R ms) → each_whole R ms ≡ true → R.refuses given ≡ false
       → Heard c piece mine mine' conn_state' response disposition given ms
 
+  -- the same on a farm's seat, of what hearing answered
+  abbrev pub HearsAt : {S P : Type 0} → Seats S P → ℕ → List ℕ → S → S → T → T → List ℕ → Result Disposition Worn → Type 0
+  HearsAt seats c piece seat seat' conn_state conn_state' response result = Hears c piece (seats.mine seat) (seats.mine seat') conn_state conn_state' response (disposition_of result)
+
   -- what a reply does: some entries stand directly behind its Collect
   pub record Replied (reply : Reply) (mine mine' : List Entry) (conn_state' : T) (response : List ℕ) (disposition : Disposition) (given : List ℕ) (ms : List (Move A)) : Type 0 where
     pub behind : List Entry
@@ -95,6 +100,10 @@ module _ {A W T : Type 0} (R : Rules A W) (K : List ℕ → List (Move A) → T 
   abbrev pub Replies : Reply → List Entry → List Entry → T → T → List ℕ → Disposition → Type 0
   Replies reply mine mine' conn_state conn_state' response disposition =
       (given : List ℕ) (ms : List (Move A)) → K given ms conn_state → Replied reply mine mine' conn_state' response disposition given ms
+
+  -- the same on a farm's seat, of what taking it answered
+  abbrev pub RepliesAt : {S P : Type 0} → Seats S P → Reply → S → S → T → T → List ℕ → Result Disposition Worn → Type 0
+  RepliesAt seats reply seat seat' conn_state conn_state' response result = Replies reply (seats.mine seat) (seats.mine seat') conn_state conn_state' response (disposition_of result)
 
   -- whether all is answered that will be
   abbrev pub Ends : T → Bool → Type 0

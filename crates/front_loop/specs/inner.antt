@@ -1,8 +1,5 @@
--- Inner words, which serve the contracts of inner functions alone: a front's doing step by step, and what its sessions have to do with it.
-pub mod Steps
-pub mod Parts
-pub mod Sound
-pub mod StepRuns
+-- Inner words, which serve the contracts of inner functions alone: what a front's sessions have to do with its rounds.
 pub mod Sessions
 pub mod Stands
 pub mod Stages
+pub mod Moments

@@ -1,6 +1,5 @@
 //! Connections are left.
-ghost use Rattle.std.specs.Prelude.{◌≡◌, ◌+◌, ◌-◌, ◌^◌, ◌<◌, [], true, false, ℕ, Bool, List, Option, Some, length, min, position, MatchResult, OnErr, OnOk, IfSome, IfNone};
-ghost use Rattle.farm_history.specs.Entries.{Entry};
+ghost use Rattle.std.specs.Prelude.{◌≡◌, ◌+◌, ◌-◌, ◌^◌, true, length, min, position, OnErr, OnOk, IfSome, IfNone};
 ghost use Rattle.farm_history.specs.Lists.{Each};
 ghost use Rattle.front_loop.specs.Calls.{SameSeat};
 ghost use Rattle.front_loop.specs.Rounds.{with_starved};
@@ -8,10 +7,9 @@ ghost use Rattle.front_loop.specs.declared.sessions.Session.{Session};
 ghost use Rattle.front_loop.specs.inner.Sessions as spec;
 ghost use Rattle.front_loop.specs.inner.Sessions.{is_up, IsLeaving, StaysOn};
 ghost use Rattle.front_loop.specs.declared.dispositions.Disposition.TheVariants as disposition;
-ghost use Rattle.front_loop.specs.inner.Stands.{world};
-ghost use Rattle.front_loop.specs.inner.Stages.{CanLeave, IsOver, CutShort, Shuts};
-ghost use Rattle.port_events.specs.Told.{PortsTold, IsOpen};
-ghost use Rattle.port_events.specs.declared.events.PortEvent.{PortEvent};
+ghost use Rattle.front_loop.specs.inner.Stages.{Shuts};
+ghost use Rattle.front_loop.specs.inner.Moments.{at, MayLeave, LeavesOne, LeavesAll};
+ghost use Rattle.port_events.specs.Told.{IsOpen};
 
 use crate::context::Context;
 use crate::dispositions::{Disposition, Reason};
@@ -86,30 +84,26 @@ fn starved_after(starved: u64, why: Reason) -> u64
 
 /// Leaves the connection of the session at this place.
 fn close_one<R: Wait, M: Farm, F: Front<M>, P: Ports>(
-    context: &Context<'_, R, M, F>,
+    work: &Context<'_, R, M, F>,
     seat: &mut M::Seat,
     table: &mut SessionTable<F::ConnState>,
     ports: &mut P,
     left: (usize, u32, Reason),
 ) -> Result<(), Worn>
-    requires seat { (M.seats context.now.farm.now).is_seat seat.old }
-    requires number { (M.seats context.now.farm.now).number seat.old ≡ (F.rules context.now.front.now context.now.farm.now).number + 1 }
+    requires seat { (M.seats work.now.farm.now).is_seat seat.old }
+    requires number { (M.seats work.now.farm.now).number seat.old ≡ (F.rules work.now.front.now work.now.farm.now).number + 1 }
     requires leaving { IsLeaving table.old.sessions.items left.0 left.1 left.2 }
-    requires ready { (e : PortEvent) × ((stopped : Bool) × ((start : Option PortsTold) × CanLeave (F.rules context.now.front.now context.now.farm.now) F.knows e stopped start (world (P.state ports.old).told ((M.seats context.now.farm.now).mine seat.old) table.old))) }
-    ensures seat { SameSeat (M.seats context.now.farm.now) seat.old seat.new }
-    ensures worn { OnErr result ((M.seats context.now.farm.now).worn seat.new ≡ true) }
+    requires ready { MayLeave (F.rules work.now.front.now work.now.farm.now) F.knows (M.seats work.now.farm.now) (at (P.state ports.old) seat.old table.old) }
+    ensures seat { SameSeat (M.seats work.now.farm.now) seat.old seat.new }
+    ensures worn { OnErr result ((M.seats work.now.farm.now).worn seat.new ≡ true) }
     ensures count { (P.state ports.new).faults ≡ (P.state ports.old).faults }
     ensures fewer { OnOk result (length table.new.sessions.items + 1 ≡ length table.old.sessions.items) }
-    ensures goes { (e : PortEvent) (stopped : Bool) (start : Option PortsTold)
-        → CanLeave (F.rules context.now.front.now context.now.farm.now) F.knows e stopped start (world (P.state ports.old).told ((M.seats context.now.farm.now).mine seat.old) table.old)
-        → MatchResult result
-        (λ _. CanLeave (F.rules context.now.front.now context.now.farm.now) F.knows e stopped start (world (P.state ports.new).told ((M.seats context.now.farm.now).mine seat.new) table.new))
-        (λ _. CutShort (F.rules context.now.front.now context.now.farm.now) F.knows start (P.state ports.new).told ((M.seats context.now.farm.now).mine seat.new) table.new.starved) }
+    ensures goes { LeavesOne (F.rules work.now.front.now work.now.farm.now) F.knows (M.seats work.now.farm.now) (at (P.state ports.old) seat.old table.old) (at (P.state ports.new) seat.new table.new) result }
 {
     let (place, conn, why) = left;
-    let number = context.front.number(context.farm);
-    let Ok(_asks) = context.farm.leave(
-        context.rt,
+    let number = work.front.number(work.farm);
+    let Ok(_asks) = work.farm.leave(
+        work.rt,
         seat,
         Conn {
             front: number,
@@ -120,7 +114,7 @@ fn close_one<R: Wait, M: Farm, F: Front<M>, P: Ports>(
         return Err(Worn);
     };
     shut(ports, conn, why);
-    table.outbox.forget(conn);
+    table.answers.outbox.forget(conn);
     table.starved = starved_after(table.starved, why);
     table.sessions.remove(place);
     Ok(())
@@ -128,25 +122,21 @@ fn close_one<R: Wait, M: Farm, F: Front<M>, P: Ports>(
 
 /// Leaves every connection that leaves.
 pub fn close_all<R: Wait, M: Farm, F: Front<M>, P: Ports>(
-    context: &Context<'_, R, M, F>,
+    work: &Context<'_, R, M, F>,
     seat: &mut M::Seat,
     table: &mut SessionTable<F::ConnState>,
     ports: &mut P,
 ) -> Result<(), Worn>
-    requires seat { (M.seats context.now.farm.now).is_seat seat.old }
-    requires number { (M.seats context.now.farm.now).number seat.old ≡ (F.rules context.now.front.now context.now.farm.now).number + 1 }
-    requires ready { (e : PortEvent) × ((stopped : Bool) × ((start : Option PortsTold) × CanLeave (F.rules context.now.front.now context.now.farm.now) F.knows e stopped start (world (P.state ports.old).told ((M.seats context.now.farm.now).mine seat.old) table.old))) }
-    ensures seat { SameSeat (M.seats context.now.farm.now) seat.old seat.new }
-    ensures worn { OnErr result ((M.seats context.now.farm.now).worn seat.new ≡ true) }
+    requires seat { (M.seats work.now.farm.now).is_seat seat.old }
+    requires number { (M.seats work.now.farm.now).number seat.old ≡ (F.rules work.now.front.now work.now.farm.now).number + 1 }
+    requires ready { MayLeave (F.rules work.now.front.now work.now.farm.now) F.knows (M.seats work.now.farm.now) (at (P.state ports.old) seat.old table.old) }
+    ensures seat { SameSeat (M.seats work.now.farm.now) seat.old seat.new }
+    ensures worn { OnErr result ((M.seats work.now.farm.now).worn seat.new ≡ true) }
     ensures count { (P.state ports.new).faults ≡ (P.state ports.old).faults }
-    ensures goes { (e : PortEvent) (stopped : Bool) (start : Option PortsTold)
-        → CanLeave (F.rules context.now.front.now context.now.farm.now) F.knows e stopped start (world (P.state ports.old).told ((M.seats context.now.farm.now).mine seat.old) table.old)
-        → MatchResult result
-        (λ _. IsOver (F.rules context.now.front.now context.now.farm.now) F.knows e stopped start (world (P.state ports.new).told ((M.seats context.now.farm.now).mine seat.new) table.new))
-        (λ _. CutShort (F.rules context.now.front.now context.now.farm.now) F.knows start (P.state ports.new).told ((M.seats context.now.farm.now).mine seat.new) table.new.starved) }
+    ensures goes { LeavesAll (F.rules work.now.front.now work.now.farm.now) F.knows (M.seats work.now.farm.now) (at (P.state ports.old) seat.old table.old) (at (P.state ports.new) seat.new table.new) result }
 {
     while let Some((place, conn, why)) = leaving(table.sessions.as_slice()) {
-        let Ok(()) = close_one(context, seat, table, ports, (place, conn, why)) else {
+        let Ok(()) = close_one(work, seat, table, ports, (place, conn, why)) else {
             return Err(Worn);
         };
     }

@@ -1,23 +1,20 @@
 //! Replies are collected until none comes.
-ghost use Rattle.std.specs.Prelude.{◌≡◌, ◌+◌, [], true, false, ℕ, List, Option, MatchResult, OnErr};
+ghost use Rattle.std.specs.Prelude.{◌≡◌, ◌+◌, true, OnErr};
+ghost use Rattle.farm_base.specs.Outside.{Outside};
 ghost use Rattle.front_loop.specs.Calls.{SameSeat};
-ghost use Rattle.front_loop.specs.inner.Steps.{Step};
 ghost use Rattle.front_loop.specs.inner.Sessions.{worse};
-ghost use Rattle.front_loop.specs.inner.Stands.{world};
-ghost use Rattle.front_loop.specs.inner.Stages.{RepliesOne, AnswersWorn, Collects, CollectsOne, CanOffer, CutShort};
+ghost use Rattle.front_loop.specs.inner.Moments.{at, MayCollect, Collects, CollectsAll, RepliesOn};
 ghost use Rattle.port_events.specs.Boxes.{HasRest};
 ghost use Rattle.port_events.specs.Told.{PortsTold};
-ghost use Rattle.port_events.specs.declared.events.PortEvent.{PortEvent};
 
 use crate::context::Context;
 use crate::dispositions::{Disposition, Reason};
 use crate::farm::Farm;
 use crate::front::Front;
 use crate::hearing::{is_kept, owes_after, settle, wake_all};
-use crate::sessions::{Session, SessionTable, place_of};
+use crate::sessions::{Answers, Session, SessionTable, place_of};
 use farm_base::Worn;
 use farm_history::{Collected, Outcome, Reply};
-use port_events::Outbox;
 use std::sync::Wait;
 
 /// Of an earlier disposition and a later one: the later, if it is an end.
@@ -32,21 +29,18 @@ fn worse_of(old: Disposition, new: Disposition) -> Disposition
 
 /// A reply comes for one session.
 fn reply_one<R: Wait, M: Farm, F: Front<M>>(
-    context: &Context<'_, R, M, F>,
+    work: &Context<'_, R, M, F>,
     seat: &mut M::Seat,
     session: &mut Session<F::ConnState>,
-    outbox: &mut Outbox,
-    response: &mut Vec<u8>,
+    answers: &mut Answers,
     reply: Reply,
 ) -> Result<(), Worn>
-    requires seat { (M.seats context.now.farm.now).is_seat seat.old }
-    requires number { (M.seats context.now.farm.now).number seat.old ≡ (F.rules context.now.front.now context.now.farm.now).number + 1 }
-    requires rest { HasRest outbox.old session.old.conn }
-    ensures seat { SameSeat (M.seats context.now.farm.now) seat.old seat.new }
-    ensures worn { OnErr result ((M.seats context.now.farm.now).worn seat.new ≡ true) }
-    ensures replied { MatchResult result
-        (λ _. RepliesOne (F.rules context.now.front.now context.now.farm.now) F.knows reply ((M.seats context.now.farm.now).mine seat.old) ((M.seats context.now.farm.now).mine seat.new) session.old session.new outbox.old outbox.new)
-        (λ _. AnswersWorn (F.rules context.now.front.now context.now.farm.now) F.knows reply ((M.seats context.now.farm.now).mine seat.old) ((M.seats context.now.farm.now).mine seat.new) session.old) }
+    requires seat { (M.seats work.now.farm.now).is_seat seat.old }
+    requires number { (M.seats work.now.farm.now).number seat.old ≡ (F.rules work.now.front.now work.now.farm.now).number + 1 }
+    requires rest { HasRest answers.old.outbox session.old.conn }
+    ensures seat { SameSeat (M.seats work.now.farm.now) seat.old seat.new }
+    ensures worn { OnErr result ((M.seats work.now.farm.now).worn seat.new ≡ true) }
+    ensures replied { RepliesOn (F.rules work.now.front.now work.now.farm.now) F.knows (M.seats work.now.farm.now) reply seat.old seat.new session.old session.new answers.old.outbox answers.new.outbox result }
 {
     if !is_kept(session.disposition) {
         return Ok(());
@@ -55,36 +49,33 @@ fn reply_one<R: Wait, M: Farm, F: Front<M>>(
         session.disposition = Disposition::Leaves(Reason::Cut);
         return Ok(());
     }
+    let response = &mut answers.response;
     response.clear();
-    let Ok(disposition) = F::reply(context, seat, &mut session.conn_state, reply, response) else {
+    let Ok(disposition) = F::reply(work, seat, &mut session.conn_state, reply, response) else {
         return Err(Worn);
     };
     session.owes = owes_after(session.owes, response.as_slice(), Disposition::Stays);
     let disposition = worse_of(session.disposition, disposition);
-    session.disposition = settle(outbox, session.conn, response, disposition);
+    session.disposition = settle(&mut answers.outbox, session.conn, response, disposition);
     Ok(())
 }
 
 /// One Collect, with all that its reply makes.
 fn collect_one<R: Wait, M: Farm, F: Front<M>>(
-    context: &Context<'_, R, M, F>,
+    work: &Context<'_, R, M, F>,
     seat: &mut M::Seat,
     table: &mut SessionTable<F::ConnState>,
 ) -> Result<Collected, Worn>
-    requires seat { (M.seats context.now.farm.now).is_seat seat.old }
-    requires number { (M.seats context.now.farm.now).number seat.old ≡ (F.rules context.now.front.now context.now.farm.now).number + 1 }
-    requires ready { (e : PortEvent) × ((start told : Option PortsTold) × ((ss : List (Step F.Act)) × Collects (F.rules context.now.front.now context.now.farm.now) F.knows e start ss (world told ((M.seats context.now.farm.now).mine seat.old) table.old))) }
-    ensures seat { SameSeat (M.seats context.now.farm.now) seat.old seat.new }
-    ensures worn { OnErr result ((M.seats context.now.farm.now).worn seat.new ≡ true) }
-    ensures goes { (e : PortEvent) (start told : Option PortsTold) (ss : List (Step F.Act))
-        → Collects (F.rules context.now.front.now context.now.farm.now) F.knows e start ss (world told ((M.seats context.now.farm.now).mine seat.old) table.old)
-        → MatchResult result
-        (λ x. CollectsOne (F.rules context.now.front.now context.now.farm.now) F.knows e start (world told ((M.seats context.now.farm.now).mine seat.new) table.new) x)
-        (λ _. CutShort (F.rules context.now.front.now context.now.farm.now) F.knows start told ((M.seats context.now.farm.now).mine seat.new) table.new.starved) }
+    requires seat { (M.seats work.now.farm.now).is_seat seat.old }
+    requires number { (M.seats work.now.farm.now).number seat.old ≡ (F.rules work.now.front.now work.now.farm.now).number + 1 }
+    requires ready { (o : Outside PortsTold) × MayCollect (F.rules work.now.front.now work.now.farm.now) F.knows (M.seats work.now.farm.now) (at o seat.old table.old) }
+    ensures seat { SameSeat (M.seats work.now.farm.now) seat.old seat.new }
+    ensures worn { OnErr result ((M.seats work.now.farm.now).worn seat.new ≡ true) }
+    ensures goes { (o : Outside PortsTold) → Collects (F.rules work.now.front.now work.now.farm.now) F.knows (M.seats work.now.farm.now) (at o seat.old table.old) (at o seat.new table.new) result }
 {
-    let Ok(collected) = context
+    let Ok(collected) = work
         .farm
-        .collect(context.rt, seat, context.front.number(context.farm))
+        .collect(work.rt, seat, work.front.number(work.farm))
     else {
         return Err(Worn);
     };
@@ -94,11 +85,10 @@ fn collect_one<R: Wait, M: Farm, F: Front<M>>(
                 return Ok(collected);
             };
             let Ok(()) = reply_one(
-                context,
+                work,
                 seat,
                 &mut table.sessions[place],
-                &mut table.outbox,
-                &mut table.response,
+                &mut table.answers,
                 reply,
             ) else {
                 return Err(Worn);
@@ -115,23 +105,19 @@ fn collect_one<R: Wait, M: Farm, F: Front<M>>(
 
 /// Collects until no reply comes, and answers whether the farm was stopped.
 pub fn collect_all<R: Wait, M: Farm, F: Front<M>>(
-    context: &Context<'_, R, M, F>,
+    work: &Context<'_, R, M, F>,
     seat: &mut M::Seat,
     table: &mut SessionTable<F::ConnState>,
 ) -> Result<bool, Worn>
-    requires seat { (M.seats context.now.farm.now).is_seat seat.old }
-    requires number { (M.seats context.now.farm.now).number seat.old ≡ (F.rules context.now.front.now context.now.farm.now).number + 1 }
-    requires ready { (e : PortEvent) × ((start told : Option PortsTold) × ((ss : List (Step F.Act)) × Collects (F.rules context.now.front.now context.now.farm.now) F.knows e start ss (world told ((M.seats context.now.farm.now).mine seat.old) table.old))) }
-    ensures seat { SameSeat (M.seats context.now.farm.now) seat.old seat.new }
-    ensures worn { OnErr result ((M.seats context.now.farm.now).worn seat.new ≡ true) }
-    ensures goes { (e : PortEvent) (start told : Option PortsTold) (ss : List (Step F.Act))
-        → Collects (F.rules context.now.front.now context.now.farm.now) F.knows e start ss (world told ((M.seats context.now.farm.now).mine seat.old) table.old)
-        → MatchResult result
-        (λ stopped. CanOffer (F.rules context.now.front.now context.now.farm.now) F.knows e stopped start (world told ((M.seats context.now.farm.now).mine seat.new) table.new))
-        (λ _. CutShort (F.rules context.now.front.now context.now.farm.now) F.knows start told ((M.seats context.now.farm.now).mine seat.new) table.new.starved) }
+    requires seat { (M.seats work.now.farm.now).is_seat seat.old }
+    requires number { (M.seats work.now.farm.now).number seat.old ≡ (F.rules work.now.front.now work.now.farm.now).number + 1 }
+    requires ready { (o : Outside PortsTold) × MayCollect (F.rules work.now.front.now work.now.farm.now) F.knows (M.seats work.now.farm.now) (at o seat.old table.old) }
+    ensures seat { SameSeat (M.seats work.now.farm.now) seat.old seat.new }
+    ensures worn { OnErr result ((M.seats work.now.farm.now).worn seat.new ≡ true) }
+    ensures goes { (o : Outside PortsTold) → CollectsAll (F.rules work.now.front.now work.now.farm.now) F.knows (M.seats work.now.farm.now) (at o seat.old table.old) (at o seat.new table.new) result }
 {
-    for _ in context.rt.forever() {
-        let Ok(collected) = collect_one(context, seat, table) else {
+    for _ in work.rt.forever() {
+        let Ok(collected) = collect_one(work, seat, table) else {
             return Err(Worn);
         };
         match collected {

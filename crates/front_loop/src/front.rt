@@ -2,7 +2,7 @@
 ghost use Rattle.std.specs.Prelude.{◌≡◌, ◌+◌, ℕ, List, [], true, false, OnErr};
 ghost use Rattle.front_loop.specs.Rules.{Rules, Move};
 ghost use Rattle.front_loop.specs.Calls.{SameSeat};
-ghost use Rattle.front_loop.specs.Front.{Begins, Hears, Replies, Ends, MayStandAlone, disposition_of};
+ghost use Rattle.front_loop.specs.Front.{Begins, HearsAt, RepliesAt, Ends, MayStandAlone};
 ghost use Rattle.farm_history.specs.declared.queues.Outcome.TheVariants as outcome;
 ghost use Rattle.std.specs.Prelude.{◌≢◌};
 
@@ -53,7 +53,7 @@ pub trait Front<M: Farm> {
         requires empty { response.old.items ≡ [] }
         ensures seat { SameSeat (M.seats context.now.farm.now) seat.old seat.new }
         ensures worn { OnErr result ((M.seats context.now.farm.now).worn seat.new ≡ true) }
-        ensures heard { Hears (rules context.now.front.now context.now.farm.now) knows conn piece.now ((M.seats context.now.farm.now).mine seat.old) ((M.seats context.now.farm.now).mine seat.new) conn_state.old conn_state.new response.new.items (disposition_of result) };
+        ensures heard { HearsAt (rules context.now.front.now context.now.farm.now) knows (M.seats context.now.farm.now) conn piece.now seat.old seat.new conn_state.old conn_state.new response.new.items result };
 
     /// A reply to an ask of the connection was collected, which is not Cut: puts the bytes that are
     /// answered to it into `response`.
@@ -70,7 +70,7 @@ pub trait Front<M: Farm> {
         requires uncut { reply.outcome ≢ outcome.Cut }
         ensures seat { SameSeat (M.seats context.now.farm.now) seat.old seat.new }
         ensures worn { OnErr result ((M.seats context.now.farm.now).worn seat.new ≡ true) }
-        ensures replied { Replies (rules context.now.front.now context.now.farm.now) knows reply ((M.seats context.now.farm.now).mine seat.old) ((M.seats context.now.farm.now).mine seat.new) conn_state.old conn_state.new response.new.items (disposition_of result) };
+        ensures replied { RepliesAt (rules context.now.front.now context.now.farm.now) knows (M.seats context.now.farm.now) reply seat.old seat.new conn_state.old conn_state.new response.new.items result };
 
     /// Whether all is answered on the session that will be.
     fn is_done(&self, farm: &M, conn_state: &Self::ConnState) -> bool

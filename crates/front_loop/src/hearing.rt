@@ -1,13 +1,12 @@
 //! A round begins: its event, and the requests that become whole by it.
-ghost use Rattle.std.specs.Prelude.{◌≡◌, ◌+◌, ◌-◌, ◌^◌, ◌++◌, ◌∷◌, [], true, false, ℕ, List, Option, None, MatchResult, OnErr, OnOk, cond, min, map, nat_lt, length, option_map};
+ghost use Rattle.std.specs.Prelude.{◌≡◌, ◌≢◌, ◌+◌, ◌-◌, ◌^◌, ◌++◌, ◌∷◌, [], true, None, OnErr, OnOk, cond, min, map, nat_lt, length, option_map};
 ghost use Rattle.farm_base.specs.Limits.{most_sessions};
-ghost use Rattle.farm_history.specs.Entries.{Entry};
+ghost use Rattle.farm_base.specs.Outside.{Outside};
 ghost use Rattle.front_loop.specs.Calls.{SameSeat};
-ghost use Rattle.front_loop.specs.inner.Sound.{BeginsRound};
 ghost use Rattle.front_loop.specs.Front.{keeps};
 ghost use Rattle.front_loop.specs.inner.Sessions.{owing, woken, keys, conns, newcomer};
-ghost use Rattle.front_loop.specs.inner.Stands.{world};
-ghost use Rattle.front_loop.specs.inner.Stages.{Settles, HearsOne, HearsWorn, Comes, HasBegun, CutShort, Admits, MarksAt, marked};
+ghost use Rattle.front_loop.specs.inner.Stages.{Settles, Admits, Opens, MarksAt, marked};
+ghost use Rattle.front_loop.specs.inner.Moments.{at, MayStart, Starts, MayHear, HearsPiece, HearsOn};
 ghost use Rattle.port_events.specs.Boxes.{HasRest, rest_at};
 ghost use Rattle.port_events.specs.Told.{PortsTold, IsOpen, after_close};
 ghost use Rattle.port_events.specs.declared.events.PortEvent.TheVariants as event;
@@ -16,11 +15,18 @@ use crate::context::Context;
 use crate::dispositions::{Disposition, Reason};
 use crate::farm::Farm;
 use crate::front::Front;
-use crate::sessions::{Session, SessionTable, place_of};
+use crate::sessions::{Answers, Session, SessionTable, place_of};
 use farm_base::{MOST_SESSIONS, NoMemory, Worn};
 use port_events::{BoxFault, Outbox, PortEvent, Ports};
 use std::alloc::Global;
 use std::sync::Wait;
+
+/// What came: an event, and the bytes of its piece.
+#[derive(Clone, Copy)]
+pub struct Came<'a> {
+    pub event: PortEvent,
+    pub piece: &'a [u8],
+}
 
 /// Whether the bytes of a session are still kept and answered.
 pub fn is_kept(disposition: Disposition) -> bool
@@ -61,25 +67,23 @@ pub fn settle(
 
 /// A piece is heard on one session.
 fn hear_one<R: Wait, M: Farm, F: Front<M>>(
-    context: &Context<'_, R, M, F>,
+    work: &Context<'_, R, M, F>,
     seat: &mut M::Seat,
     session: &mut Session<F::ConnState>,
-    outbox: &mut Outbox,
-    response: &mut Vec<u8>,
+    answers: &mut Answers,
     piece: &[u8],
 ) -> Result<(), Worn>
-    requires seat { (M.seats context.now.farm.now).is_seat seat.old }
-    requires number { (M.seats context.now.farm.now).number seat.old ≡ (F.rules context.now.front.now context.now.farm.now).number + 1 }
-    requires rest { HasRest outbox.old session.old.conn }
-    ensures seat { SameSeat (M.seats context.now.farm.now) seat.old seat.new }
-    ensures worn { OnErr result ((M.seats context.now.farm.now).worn seat.new ≡ true) }
-    ensures heard { MatchResult result
-        (λ _. HearsOne (F.rules context.now.front.now context.now.farm.now) F.knows piece.now ((M.seats context.now.farm.now).mine seat.old) ((M.seats context.now.farm.now).mine seat.new) session.old session.new outbox.old outbox.new)
-        (λ _. HearsWorn (F.rules context.now.front.now context.now.farm.now) F.knows session.old.conn piece.now ((M.seats context.now.farm.now).mine seat.old) ((M.seats context.now.farm.now).mine seat.new) session.old.conn_state) }
+    requires seat { (M.seats work.now.farm.now).is_seat seat.old }
+    requires number { (M.seats work.now.farm.now).number seat.old ≡ (F.rules work.now.front.now work.now.farm.now).number + 1 }
+    requires rest { HasRest answers.old.outbox session.old.conn }
+    ensures seat { SameSeat (M.seats work.now.farm.now) seat.old seat.new }
+    ensures worn { OnErr result ((M.seats work.now.farm.now).worn seat.new ≡ true) }
+    ensures heard { HearsOn (F.rules work.now.front.now work.now.farm.now) F.knows (M.seats work.now.farm.now) piece.now seat.old seat.new session.old session.new answers.old.outbox answers.new.outbox result }
 {
+    let response = &mut answers.response;
     response.clear();
     let Ok(disposition) = F::hear(
-        context,
+        work,
         seat,
         session.conn,
         &mut session.conn_state,
@@ -89,38 +93,33 @@ fn hear_one<R: Wait, M: Farm, F: Front<M>>(
         return Err(Worn);
     };
     session.owes = owes_after(session.owes, response.as_slice(), disposition);
-    session.disposition = settle(outbox, session.conn, response, disposition);
+    session.disposition = settle(&mut answers.outbox, session.conn, response, disposition);
     Ok(())
 }
 
 /// A piece came on a connection.
 fn hear<R: Wait, M: Farm, F: Front<M>>(
-    context: &Context<'_, R, M, F>,
+    work: &Context<'_, R, M, F>,
     seat: &mut M::Seat,
     table: &mut SessionTable<F::ConnState>,
     conn: u32,
     piece: &[u8],
 ) -> Result<(), Worn>
-    requires seat { (M.seats context.now.farm.now).is_seat seat.old }
-    requires number { (M.seats context.now.farm.now).number seat.old ≡ (F.rules context.now.front.now context.now.farm.now).number + 1 }
-    requires ready { (start told was : Option PortsTold) × Comes (F.rules context.now.front.now context.now.farm.now) F.knows (event.Bytes conn) piece.now start told (world was ((M.seats context.now.farm.now).mine seat.old) table.old) }
-    ensures seat { SameSeat (M.seats context.now.farm.now) seat.old seat.new }
-    ensures worn { OnErr result ((M.seats context.now.farm.now).worn seat.new ≡ true) }
-    ensures goes { (start told was : Option PortsTold)
-        → Comes (F.rules context.now.front.now context.now.farm.now) F.knows (event.Bytes conn) piece.now start told (world was ((M.seats context.now.farm.now).mine seat.old) table.old)
-        → MatchResult result
-        (λ _. HasBegun (F.rules context.now.front.now context.now.farm.now) F.knows (event.Bytes conn) start (world told ((M.seats context.now.farm.now).mine seat.new) table.new))
-        (λ _. CutShort (F.rules context.now.front.now context.now.farm.now) F.knows start told ((M.seats context.now.farm.now).mine seat.new) table.new.starved) }
+    requires seat { (M.seats work.now.farm.now).is_seat seat.old }
+    requires number { (M.seats work.now.farm.now).number seat.old ≡ (F.rules work.now.front.now work.now.farm.now).number + 1 }
+    requires ready { (o : Outside PortsTold) × MayHear (F.rules work.now.front.now work.now.farm.now) F.knows (M.seats work.now.farm.now) conn piece.now (at o seat.old table.old) }
+    ensures seat { SameSeat (M.seats work.now.farm.now) seat.old seat.new }
+    ensures worn { OnErr result ((M.seats work.now.farm.now).worn seat.new ≡ true) }
+    ensures goes { (o : Outside PortsTold) → HearsPiece (F.rules work.now.front.now work.now.farm.now) F.knows (M.seats work.now.farm.now) conn piece.now (at o seat.old table.old) (at o seat.new table.new) result }
 {
     let Some(place) = place_of(table.sessions.as_slice(), conn) else {
         return Ok(());
     };
     hear_one(
-        context,
+        work,
         seat,
         &mut table.sessions[place],
-        &mut table.outbox,
-        &mut table.response,
+        &mut table.answers,
         piece,
     )
 }
@@ -132,12 +131,14 @@ fn add<T: Drop>(
     conn: u32,
     conn_state: T,
 ) -> Result<(), NoMemory>
-    requires { rest_at table.old.outbox conn ≡ None }
-    ensures done { OnOk result ((table.new.sessions.items ≡ table.old.sessions.items ++ newcomer conn conn_state ∷ []) × (table.new.outbox ≡ table.old.outbox ++ (conn, []) ∷ []) × (table.new.starved ≡ table.old.starved)) }
-    ensures refused { OnErr result ((table.new.sessions.items ≡ table.old.sessions.items) × (table.new.outbox ≡ table.old.outbox) × (table.new.starved ≡ table.old.starved)) }
+    requires { rest_at table.old.answers.outbox conn ≡ None }
+    ensures sessions { OnOk result (table.new.sessions.items ≡ table.old.sessions.items ++ newcomer conn conn_state ∷ []) }
+    ensures outbox { OnOk result (table.new.answers.outbox ≡ table.old.answers.outbox ++ (conn, []) ∷ []) }
+    ensures refused { OnErr result ((table.new.sessions.items ≡ table.old.sessions.items) × (table.new.answers.outbox ≡ table.old.answers.outbox)) }
+    ensures starved { table.new.starved ≡ table.old.starved }
 {
     table.sessions.reserve(1)?;
-    table.outbox.begin(alloc, conn)?;
+    table.answers.outbox.begin(alloc, conn)?;
     table
         .sessions
         .push(Session {
@@ -153,12 +154,12 @@ fn add<T: Drop>(
 /// Makes a session of a connection, unless it is there, or 1,024 are, or memory is wanting; answers
 /// whether it did.
 fn admit<R, M: Farm, F: Front<M>>(
-    context: &Context<'_, R, M, F>,
+    work: &Context<'_, R, M, F>,
     table: &mut SessionTable<F::ConnState>,
     conn: u32,
 ) -> bool
-    requires { keys table.old.outbox ≡ conns table.old.sessions.items }
-    ensures { Admits (F.rules context.now.front.now context.now.farm.now) F.knows conn table.old table.new result }
+    requires { keys table.old.answers.outbox ≡ conns table.old.sessions.items }
+    ensures { Admits (F.rules work.now.front.now work.now.farm.now) F.knows conn table.old table.new result }
 {
     if table.sessions.len() >= MOST_SESSIONS {
         return false;
@@ -166,10 +167,10 @@ fn admit<R, M: Farm, F: Front<M>>(
     match place_of(table.sessions.as_slice(), conn) {
         Some(_) => false,
         None => match add(
-            context.alloc,
+            work.alloc,
             table,
             conn,
-            context.front.begin(context.alloc, context.farm),
+            work.front.begin(work.alloc, work.farm),
         ) {
             Ok(()) => true,
             Err(NoMemory) => false,
@@ -194,7 +195,7 @@ fn refuse<T, P: Ports>(table: &mut SessionTable<T>, ports: &mut P, conn: u32)
     ensures told { (P.state ports.new).told ≡ option_map (after_close conn) (P.state ports.old).told }
     ensures count { (P.state ports.new).faults ≡ (P.state ports.old).faults }
     ensures sessions { table.new.sessions.items ≡ table.old.sessions.items }
-    ensures outbox { table.new.outbox ≡ table.old.outbox }
+    ensures outbox { table.new.answers.outbox ≡ table.old.answers.outbox }
     ensures starved { table.new.starved ≡ cond (nat_lt (length table.old.sessions.items) most_sessions) (min (table.old.starved + 1) (2 ^ 64 - 1)) table.old.starved }
 {
     ports.close(conn);
@@ -203,19 +204,17 @@ fn refuse<T, P: Ports>(table: &mut SessionTable<T>, ports: &mut P, conn: u32)
 
 /// A connection was opened: it gets a session, or is closed.
 fn open<R, M: Farm, F: Front<M>, P: Ports>(
-    context: &Context<'_, R, M, F>,
+    work: &Context<'_, R, M, F>,
     table: &mut SessionTable<F::ConnState>,
     ports: &mut P,
-    piece: &[u8],
     conn: u32,
 )
-    requires ready { (start was : Option PortsTold) × ((mine : List Entry) × Comes (F.rules context.now.front.now context.now.farm.now) F.knows (event.Opened conn) piece.now start (P.state ports.old).told (world was mine table.old)) }
-    ensures goes { (start was : Option PortsTold) (mine : List Entry)
-        → Comes (F.rules context.now.front.now context.now.farm.now) F.knows (event.Opened conn) piece.now start (P.state ports.old).told (world was mine table.old)
-        → HasBegun (F.rules context.now.front.now context.now.farm.now) F.knows (event.Opened conn) start (world (P.state ports.new).told mine table.new) }
+    requires keys { keys table.old.answers.outbox ≡ conns table.old.sessions.items }
+    requires open { IsOpen conn (P.state ports.old).told }
+    ensures opens { Opens (F.rules work.now.front.now work.now.farm.now) F.knows conn (P.state ports.old).told (P.state ports.new).told table.old table.new }
     ensures count { (P.state ports.new).faults ≡ (P.state ports.old).faults }
 {
-    match admit(context, table, conn) {
+    match admit(work, table, conn) {
         true => {}
         false => refuse(table, ports, conn),
     }
@@ -245,42 +244,38 @@ fn mark_at<T>(table: &mut SessionTable<T>, event: PortEvent, conn: u32)
 
 /// An event came that begins a round.
 pub fn take_event<R: Wait, M: Farm, F: Front<M>, P: Ports>(
-    context: &Context<'_, R, M, F>,
+    work: &Context<'_, R, M, F>,
     seat: &mut M::Seat,
     table: &mut SessionTable<F::ConnState>,
     ports: &mut P,
-    piece: &[u8],
-    event: PortEvent,
+    came: &Came<'_>,
 ) -> Result<(), Worn>
-    requires seat { (M.seats context.now.farm.now).is_seat seat.old }
-    requires number { (M.seats context.now.farm.now).number seat.old ≡ (F.rules context.now.front.now context.now.farm.now).number + 1 }
-    requires begins { BeginsRound event }
-    requires ready { (start was : Option PortsTold) × Comes (F.rules context.now.front.now context.now.farm.now) F.knows event piece.now start (P.state ports.old).told (world was ((M.seats context.now.farm.now).mine seat.old) table.old) }
-    ensures seat { SameSeat (M.seats context.now.farm.now) seat.old seat.new }
-    ensures worn { OnErr result ((M.seats context.now.farm.now).worn seat.new ≡ true) }
+    requires seat { (M.seats work.now.farm.now).is_seat seat.old }
+    requires number { (M.seats work.now.farm.now).number seat.old ≡ (F.rules work.now.front.now work.now.farm.now).number + 1 }
+    requires begins { came.now.event ≢ event.Broken }
+    requires memory { came.now.event ≢ event.NoMemory }
+    requires ready { MayStart (F.rules work.now.front.now work.now.farm.now) F.knows (M.seats work.now.farm.now) came.now (at (P.state ports.old) seat.old table.old) }
+    ensures seat { SameSeat (M.seats work.now.farm.now) seat.old seat.new }
+    ensures worn { OnErr result ((M.seats work.now.farm.now).worn seat.new ≡ true) }
     ensures count { (P.state ports.new).faults ≡ (P.state ports.old).faults }
-    ensures goes { (start was : Option PortsTold)
-        → Comes (F.rules context.now.front.now context.now.farm.now) F.knows event piece.now start (P.state ports.old).told (world was ((M.seats context.now.farm.now).mine seat.old) table.old)
-        → MatchResult result
-        (λ _. HasBegun (F.rules context.now.front.now context.now.farm.now) F.knows event start (world (P.state ports.new).told ((M.seats context.now.farm.now).mine seat.new) table.new))
-        (λ _. CutShort (F.rules context.now.front.now context.now.farm.now) F.knows start (P.state ports.new).told ((M.seats context.now.farm.now).mine seat.new) table.new.starved) }
+    ensures goes { Starts (F.rules work.now.front.now work.now.farm.now) F.knows (M.seats work.now.farm.now) came.now (at (P.state ports.old) seat.old table.old) (at (P.state ports.new) seat.new table.new) result }
 {
-    match event {
+    match came.event {
         PortEvent::Opened(conn) => {
-            open(context, table, ports, piece, conn);
+            open(work, table, ports, conn);
             Ok(())
         }
-        PortEvent::Bytes(conn) => hear(context, seat, table, conn, piece),
+        PortEvent::Bytes(conn) => hear(work, seat, table, conn, came.piece),
         PortEvent::Writable(conn) => {
-            mark_at(table, event, conn);
+            mark_at(table, came.event, conn);
             Ok(())
         }
         PortEvent::Ended(conn) => {
-            mark_at(table, event, conn);
+            mark_at(table, came.event, conn);
             Ok(())
         }
         PortEvent::Lost(conn) => {
-            mark_at(table, event, conn);
+            mark_at(table, came.event, conn);
             Ok(())
         }
         PortEvent::Woken => {
@@ -308,7 +303,7 @@ fn wake_each<T>(sessions: &mut [Session<T>])
 /// Every session of the table owes an offer.
 pub fn wake_all<T>(table: &mut SessionTable<T>)
     ensures sessions { table.new.sessions.items ≡ map woken table.old.sessions.items }
-    ensures outbox { table.new.outbox ≡ table.old.outbox }
+    ensures outbox { table.new.answers.outbox ≡ table.old.answers.outbox }
     ensures starved { table.new.starved ≡ table.old.starved }
 {
     wake_each(table.sessions.as_mut_slice());

@@ -1,15 +1,12 @@
 //! Bytes are offered to the connections that have a reason to get them.
-ghost use Rattle.std.specs.Prelude.{◌≡◌, ◌≤◌, ◌+◌, [], true, false, ℕ, List, Option, length, nat_eq};
-ghost use Rattle.farm_history.specs.Lists.{Each};
+ghost use Rattle.std.specs.Prelude.{◌≡◌, ◌≤◌, true};
 ghost use Rattle.front_loop.specs.inner.Sessions.{is_up};
-ghost use Rattle.front_loop.specs.inner.Stands.{world};
-ghost use Rattle.front_loop.specs.inner.Stages.{Gives, OffersOne, CanOffer, CanLeave, disposition_after, part_or_all};
-ghost use Rattle.farm_history.specs.Entries.{Entry};
+ghost use Rattle.front_loop.specs.inner.Stages.{Gives, OffersOne, disposition_after, part_or_all};
+ghost use Rattle.front_loop.specs.inner.Moments.{at, MayOffer, OffersAll};
 ghost use Rattle.port_events.specs.Boxes.{HasRest, rest_in};
-ghost use Rattle.port_events.specs.Told.{PortsTold, IsOpen};
-ghost use Rattle.port_events.specs.declared.events.PortEvent.{PortEvent};
-ghost use Rattle.std.specs.Prelude.{Bool};
+ghost use Rattle.port_events.specs.Told.{IsOpen};
 
+use crate::context::Context;
 use crate::dispositions::{Disposition, Reason};
 use crate::farm::Farm;
 use crate::front::Front;
@@ -80,16 +77,15 @@ fn disposition_of_offer(gave: Gave, done: bool, disposition: Disposition) -> Dis
 }
 
 /// Offers one session its bytes, if it owes that.
-fn offer_one<M: Farm, F: Front<M>, P: Ports>(
-    front: &F,
-    farm: &M,
+fn offer_one<R, M: Farm, F: Front<M>, P: Ports>(
+    work: &Context<'_, R, M, F>,
     session: &mut Session<F::ConnState>,
     outbox: &mut Outbox,
     ports: &mut P,
 )
     requires rest { HasRest outbox.old session.old.conn }
     requires open { is_up session.old.disposition ≡ true → IsOpen session.old.conn (P.state ports.old).told }
-    ensures offers { OffersOne (F.rules front.now farm.now) F.knows session.old session.new outbox.old outbox.new (P.state ports.old).told (P.state ports.new).told }
+    ensures offers { OffersOne (F.rules work.now.front.now work.now.farm.now) F.knows session.old session.new outbox.old outbox.new (P.state ports.old).told (P.state ports.new).told }
     ensures count { (P.state ports.old).faults ≤ (P.state ports.new).faults }
 {
     if !session.owes || !is_kept(session.disposition) {
@@ -97,29 +93,25 @@ fn offer_one<M: Farm, F: Front<M>, P: Ports>(
     }
     session.owes = false;
     let gave = give(outbox, session.conn, ports);
-    let done = front.is_done(farm, &session.conn_state);
+    let done = work.front.is_done(work.farm, &session.conn_state);
     session.disposition = disposition_of_offer(gave, done, session.disposition);
 }
 
 /// Offers every session its bytes that owes that.
-pub fn offer_all<M: Farm, F: Front<M>, P: Ports>(
-    front: &F,
-    farm: &M,
+pub fn offer_all<R, M: Farm, F: Front<M>, P: Ports>(
+    work: &Context<'_, R, M, F>,
     table: &mut SessionTable<F::ConnState>,
     ports: &mut P,
 )
-    requires ready { (e : PortEvent) × ((stopped : Bool) × ((start : Option PortsTold) × ((mine : List Entry) × CanOffer (F.rules front.now farm.now) F.knows e stopped start (world (P.state ports.old).told mine table.old)))) }
-    ensures goes { (e : PortEvent) (stopped : Bool) (start : Option PortsTold) (mine : List Entry)
-        → CanOffer (F.rules front.now farm.now) F.knows e stopped start (world (P.state ports.old).told mine table.old)
-        → CanLeave (F.rules front.now farm.now) F.knows e stopped start (world (P.state ports.new).told mine table.new) }
+    requires ready { (seat : M.Seat) × MayOffer (F.rules work.now.front.now work.now.farm.now) F.knows (M.seats work.now.farm.now) (at (P.state ports.old) seat table.old) }
+    ensures goes { (seat : M.Seat) → OffersAll (F.rules work.now.front.now work.now.farm.now) F.knows (M.seats work.now.farm.now) (at (P.state ports.old) seat table.old) (at (P.state ports.new) seat table.new) }
     ensures count { (P.state ports.old).faults ≤ (P.state ports.new).faults }
 {
     for place in 0..table.sessions.len() {
         offer_one(
-            front,
-            farm,
+            work,
             &mut table.sessions[place],
-            &mut table.outbox,
+            &mut table.answers.outbox,
             ports,
         );
     }

@@ -1,23 +1,19 @@
 //! Rounds, one after another, until the front ends.
-ghost use Rattle.std.specs.Prelude.{◌≡◌, ◌≢◌, ◌≤◌, ◌+◌, [], true, false, ℕ, List, Option, Some, map, MatchResult, OnErr, IfOk};
-ghost use Rattle.farm_history.specs.Entries.{Entry};
+ghost use Rattle.std.specs.Prelude.{◌≡◌, ◌≢◌, ◌≤◌, ◌+◌, [], true, Some, OnErr, IfOk};
 ghost use Rattle.front_loop.specs.Calls.{SameSeat};
 ghost use Rattle.front_loop.specs.Serving.{FrontRun};
-ghost use Rattle.front_loop.specs.inner.StepRuns.{StepRun};
 ghost use Rattle.farm_base.specs.Outside.{Counted};
-ghost use Rattle.port_events.specs.Boxes.{as_rest};
+ghost use Rattle.port_events.specs.declared.events.PortEvent.TheVariants as event;
 ghost use Rattle.port_events.specs.declared.ends.FrontEnd.TheVariants as ended;
-ghost use Rattle.front_loop.specs.inner.Stands.{world};
-ghost use Rattle.front_loop.specs.inner.Stages.{Comes, CanGo, Goes, CutShort, EndsEarly, StopsAfter, end_of};
-ghost use Rattle.front_loop.specs.inner.Sound.{BeginsRound};
-ghost use Rattle.port_events.specs.Told.{PortsTold};
+ghost use Rattle.front_loop.specs.inner.Stages.{EndsEarly, StopsAfter, end_of};
+ghost use Rattle.front_loop.specs.inner.Moments.{at, MayStart, Plays, MayGo, GoesOnce, GoesOn, MayServe, RunsTo};
 
 use crate::closing::close_all;
 use crate::collecting::collect_all;
 use crate::context::Context;
 use crate::farm::Farm;
 use crate::front::Front;
-use crate::hearing::take_event;
+use crate::hearing::{Came, take_event};
 use crate::offering::offer_all;
 use crate::sessions::SessionTable;
 use farm_base::Worn;
@@ -52,90 +48,81 @@ fn early_end(event: PortEvent) -> Option<FrontEnd>
 
 /// A round, from its event on.
 fn play<R: Wait, M: Farm, F: Front<M>, P: Ports>(
-    context: &Context<'_, R, M, F>,
+    work: &Context<'_, R, M, F>,
     seat: &mut M::Seat,
     table: &mut SessionTable<F::ConnState>,
     ports: &mut P,
-    piece: &[u8],
-    event: PortEvent,
+    came: &Came<'_>,
 ) -> Result<Option<FrontEnd>, Worn>
-    requires seat { (M.seats context.now.farm.now).is_seat seat.old }
-    requires number { (M.seats context.now.farm.now).number seat.old ≡ (F.rules context.now.front.now context.now.farm.now).number + 1 }
-    requires begins { BeginsRound event }
-    requires ready { (start was : Option PortsTold) × Comes (F.rules context.now.front.now context.now.farm.now) F.knows event piece.now start (P.state ports.old).told (world was ((M.seats context.now.farm.now).mine seat.old) table.old) }
-    ensures seat { SameSeat (M.seats context.now.farm.now) seat.old seat.new }
-    ensures worn { OnErr result ((M.seats context.now.farm.now).worn seat.new ≡ true) }
+    requires seat { (M.seats work.now.farm.now).is_seat seat.old }
+    requires number { (M.seats work.now.farm.now).number seat.old ≡ (F.rules work.now.front.now work.now.farm.now).number + 1 }
+    requires begins { came.now.event ≢ event.Broken }
+    requires memory { came.now.event ≢ event.NoMemory }
+    requires ready { MayStart (F.rules work.now.front.now work.now.farm.now) F.knows (M.seats work.now.farm.now) came.now (at (P.state ports.old) seat.old table.old) }
+    ensures seat { SameSeat (M.seats work.now.farm.now) seat.old seat.new }
+    ensures worn { OnErr result ((M.seats work.now.farm.now).worn seat.new ≡ true) }
     ensures count { (P.state ports.old).faults ≤ (P.state ports.new).faults }
     ensures unbroken { IfOk result (λ end. end ≢ Some ended.Broken) }
-    ensures goes { (start was : Option PortsTold)
-        → Comes (F.rules context.now.front.now context.now.farm.now) F.knows event piece.now start (P.state ports.old).told (world was ((M.seats context.now.farm.now).mine seat.old) table.old)
-        → MatchResult result
-        (λ end. Goes (F.rules context.now.front.now context.now.farm.now) F.knows start (world (P.state ports.new).told ((M.seats context.now.farm.now).mine seat.new) table.new) end)
-        (λ _. CutShort (F.rules context.now.front.now context.now.farm.now) F.knows start (P.state ports.new).told ((M.seats context.now.farm.now).mine seat.new) table.new.starved) }
+    ensures goes { Plays (F.rules work.now.front.now work.now.farm.now) F.knows (M.seats work.now.farm.now) came.now (at (P.state ports.old) seat.old table.old) (at (P.state ports.new) seat.new table.new) result }
 {
-    let Ok(()) = take_event(context, seat, table, ports, piece, event) else {
+    let Ok(()) = take_event(work, seat, table, ports, came) else {
         return Err(Worn);
     };
-    let Ok(stopped) = collect_all(context, seat, table) else {
+    let Ok(stopped) = collect_all(work, seat, table) else {
         return Err(Worn);
     };
-    offer_all(context.front, context.farm, table, ports);
-    let Ok(()) = close_all(context, seat, table, ports) else {
+    offer_all(work, table, ports);
+    let Ok(()) = close_all(work, seat, table, ports) else {
         return Err(Worn);
     };
-    Ok(end_after(event, stopped))
+    Ok(end_after(came.event, stopped))
 }
 
 /// One event, and the round that begins with it.
 fn round<R: Wait, M: Farm, F: Front<M>, P: Ports>(
-    context: &Context<'_, R, M, F>,
+    work: &Context<'_, R, M, F>,
     seat: &mut M::Seat,
     table: &mut SessionTable<F::ConnState>,
     ports: &mut P,
     room: &mut Vec<u8>,
 ) -> Result<Option<FrontEnd>, Worn>
-    requires seat { (M.seats context.now.farm.now).is_seat seat.old }
-    requires number { (M.seats context.now.farm.now).number seat.old ≡ (F.rules context.now.front.now context.now.farm.now).number + 1 }
-    requires ready { (start : Option PortsTold) × CanGo (F.rules context.now.front.now context.now.farm.now) F.knows start (world (P.state ports.old).told ((M.seats context.now.farm.now).mine seat.old) table.old) }
-    ensures seat { SameSeat (M.seats context.now.farm.now) seat.old seat.new }
-    ensures worn { OnErr result ((M.seats context.now.farm.now).worn seat.new ≡ true) }
+    requires seat { (M.seats work.now.farm.now).is_seat seat.old }
+    requires number { (M.seats work.now.farm.now).number seat.old ≡ (F.rules work.now.front.now work.now.farm.now).number + 1 }
+    requires ready { MayGo (F.rules work.now.front.now work.now.farm.now) F.knows (M.seats work.now.farm.now) (at (P.state ports.old) seat.old table.old) }
+    ensures seat { SameSeat (M.seats work.now.farm.now) seat.old seat.new }
+    ensures worn { OnErr result ((M.seats work.now.farm.now).worn seat.new ≡ true) }
     ensures count { (P.state ports.old).faults ≤ (P.state ports.new).faults }
     ensures broken { IfOk result (λ end. end ≡ Some ended.Broken → Counted (P.state ports.old).faults (P.state ports.new).faults) }
-    ensures goes { (start : Option PortsTold)
-        → CanGo (F.rules context.now.front.now context.now.farm.now) F.knows start (world (P.state ports.old).told ((M.seats context.now.farm.now).mine seat.old) table.old)
-        → MatchResult result
-        (λ end. Goes (F.rules context.now.front.now context.now.farm.now) F.knows start (world (P.state ports.new).told ((M.seats context.now.farm.now).mine seat.new) table.new) end)
-        (λ _. CutShort (F.rules context.now.front.now context.now.farm.now) F.knows start (P.state ports.new).told ((M.seats context.now.farm.now).mine seat.new) table.new.starved) }
+    ensures goes { GoesOnce (F.rules work.now.front.now work.now.farm.now) F.knows (M.seats work.now.farm.now) (at (P.state ports.old) seat.old table.old) (at (P.state ports.new) seat.new table.new) result }
 {
     let event = ports.next(room);
     match early_end(event) {
         Some(end) => Ok(Some(end)),
-        None => play(context, seat, table, ports, room.as_slice(), event),
+        None => {
+            let piece = room.as_slice();
+            play(work, seat, table, ports, &Came { event, piece })
+        }
     }
 }
 
 /// Rounds until the front ends.
 fn run<R: Wait, M: Farm, F: Front<M>, P: Ports>(
-    context: &Context<'_, R, M, F>,
+    work: &Context<'_, R, M, F>,
     seat: &mut M::Seat,
     table: &mut SessionTable<F::ConnState>,
     ports: &mut P,
 ) -> Result<FrontEnd, Worn>
-    requires seat { (M.seats context.now.farm.now).is_seat seat.old }
-    requires number { (M.seats context.now.farm.now).number seat.old ≡ (F.rules context.now.front.now context.now.farm.now).number + 1 }
-    requires ready { (start : Option PortsTold) × CanGo (F.rules context.now.front.now context.now.farm.now) F.knows start (world (P.state ports.old).told ((M.seats context.now.farm.now).mine seat.old) table.old) }
-    ensures seat { SameSeat (M.seats context.now.farm.now) seat.old seat.new }
-    ensures worn { OnErr result ((M.seats context.now.farm.now).worn seat.new ≡ true) }
+    requires seat { (M.seats work.now.farm.now).is_seat seat.old }
+    requires number { (M.seats work.now.farm.now).number seat.old ≡ (F.rules work.now.front.now work.now.farm.now).number + 1 }
+    requires ready { MayGo (F.rules work.now.front.now work.now.farm.now) F.knows (M.seats work.now.farm.now) (at (P.state ports.old) seat.old table.old) }
+    ensures seat { SameSeat (M.seats work.now.farm.now) seat.old seat.new }
+    ensures worn { OnErr result ((M.seats work.now.farm.now).worn seat.new ≡ true) }
     ensures broken { IfOk result (λ end. end ≡ ended.Broken → Counted (P.state ports.old).faults (P.state ports.new).faults) }
-    ensures goes { (start : Option PortsTold)
-        → CanGo (F.rules context.now.front.now context.now.farm.now) F.knows start (world (P.state ports.old).told ((M.seats context.now.farm.now).mine seat.old) table.old)
-        → MatchResult result
-        (λ end. Goes (F.rules context.now.front.now context.now.farm.now) F.knows start (world (P.state ports.new).told ((M.seats context.now.farm.now).mine seat.new) table.new) (Some end))
-        (λ _. CutShort (F.rules context.now.front.now context.now.farm.now) F.knows start (P.state ports.new).told ((M.seats context.now.farm.now).mine seat.new) table.new.starved) }
+    ensures goes { GoesOn (F.rules work.now.front.now work.now.farm.now) F.knows (M.seats work.now.farm.now) (at (P.state ports.old) seat.old table.old) (at (P.state ports.new) seat.new table.new) result }
 {
-    let mut room = Vec::new(context.alloc);
-    for _ in context.rt.forever() {
-        let Ok(end) = round(context, seat, table, ports, &mut room) else {
+    let mut room = Vec::new(work.alloc);
+    for _ in work.rt.forever() {
+        let Ok(end) = round(work, seat, table, ports, &mut room) else {
             return Err(Worn);
         };
         if let Some(end) = end {
@@ -163,20 +150,20 @@ fn stop_after<R: Wait, M: Farm>(rt: &R, farm: &M, seat: &mut M::Seat, end: Front
 
 /// All rounds, and the front's end.
 fn serve_at<R: Wait, M: Farm, F: Front<M>, P: Ports>(
-    context: &Context<'_, R, M, F>,
+    work: &Context<'_, R, M, F>,
     seat: &mut M::Seat,
     table: &mut SessionTable<F::ConnState>,
     ports: &mut P,
 ) -> FrontEnd
-    requires seat { (M.seats context.now.farm.now).is_seat seat.old }
-    requires number { (M.seats context.now.farm.now).number seat.old ≡ (F.rules context.now.front.now context.now.farm.now).number + 1 }
-    requires ready { CanGo (F.rules context.now.front.now context.now.farm.now) F.knows (P.state ports.old).told (world (P.state ports.old).told ((M.seats context.now.farm.now).mine seat.old) table.old) }
-    ensures seat { SameSeat (M.seats context.now.farm.now) seat.old seat.new }
-    ensures served { StepRun (F.rules context.now.front.now context.now.farm.now) (P.state ports.old).told (P.state ports.new).told ((M.seats context.now.farm.now).mine seat.new) result (map (as_rest (F.rules context.now.front.now context.now.farm.now).number) table.new.outbox) table.new.starved ((M.seats context.now.farm.now).worn seat.new) }
+    requires seat { (M.seats work.now.farm.now).is_seat seat.old }
+    requires number { (M.seats work.now.farm.now).number seat.old ≡ (F.rules work.now.front.now work.now.farm.now).number + 1 }
+    requires ready { MayServe (F.rules work.now.front.now work.now.farm.now) F.knows (M.seats work.now.farm.now) (at (P.state ports.old) seat.old table.old) }
+    ensures seat { SameSeat (M.seats work.now.farm.now) seat.old seat.new }
+    ensures served { RunsTo (F.rules work.now.front.now work.now.farm.now) F.knows (M.seats work.now.farm.now) (at (P.state ports.old) seat.old table.old) (at (P.state ports.new) seat.new table.new) result }
     ensures broken { result ≡ ended.Broken → Counted (P.state ports.old).faults (P.state ports.new).faults }
 {
-    match run(context, seat, table, ports) {
-        Ok(end) => stop_after(context.rt, context.farm, seat, end),
+    match run(work, seat, table, ports) {
+        Ok(end) => stop_after(work.rt, work.farm, seat, end),
         Err(Worn) => FrontEnd::Worn,
     }
 }
@@ -197,19 +184,20 @@ pub fn serve<R: Wait, M: Farm, F: Front<M>, P: Ports>(
     requires number { (M.seats farm.now).number seat.old ≡ (F.rules front.now farm.now).number + 1 }
     requires fresh { (M.seats farm.now).mine seat.old ≡ [] }
     ensures seat { SameSeat (M.seats farm.now) seat.old seat.new }
-    ensures served { FrontRun (F.rules front.now farm.now) (P.state ports.old).told (P.state ports.new).told ((M.seats farm.now).mine seat.new) result.end result.rests.items result.starved ((M.seats farm.now).worn seat.new) }
+    ensures served { let S = M.seats farm.now in FrontRun (F.rules front.now farm.now) (P.state ports.old).told (P.state ports.new).told (S.mine seat.new) result.end result.rests.items result.starved (S.worn seat.new) }
     ensures broken { result.end ≡ ended.Broken → Counted (P.state ports.old).faults (P.state ports.new).faults }
 {
     let number = front.number(farm);
     let mut table = SessionTable::new(alloc);
-    let context = Context {
+    let work = Context {
         rt,
         alloc,
         front,
         farm,
     };
-    let end = serve_at(&context, seat, &mut table, ports);
-    let rests = table.outbox.into_rests(number);
+    let end = serve_at(&work, seat, &mut table, ports);
+    let answers = table.answers;
+    let rests = answers.outbox.into_rests(number);
     FrontDone {
         end,
         rests,

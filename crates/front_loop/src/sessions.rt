@@ -24,10 +24,16 @@ pub struct Session<T> {
 pub struct SessionTable<T> {
     /// In the order in which they were opened.
     pub sessions: Vec<Session<T>>,
-    /// The bytes that were answered and not taken, of each session.
-    pub outbox: Outbox,
+    pub answers: Answers,
     /// How many connections were closed for a want of memory that no entry shows.
     pub starved: u64,
+}
+
+/// What was answered.
+#[derive(Drop)]
+pub struct Answers {
+    /// The bytes that were answered and not taken, of each session.
+    pub outbox: Outbox,
     /// What is said to one connection, before it is put into the outbox.
     pub response: Vec<u8>,
 }
@@ -36,14 +42,16 @@ impl<T> SessionTable<T> {
     /// Nobody is there.
     pub fn new(alloc: Global) -> SessionTable<T>
         ensures sessions { result.sessions.items ≡ [] }
-        ensures outbox { result.outbox ≡ [] }
+        ensures outbox { result.answers.outbox ≡ [] }
         ensures starved { result.starved ≡ 0 }
     {
         SessionTable {
             sessions: Vec::new(alloc),
-            outbox: Outbox::new(alloc),
+            answers: Answers {
+                outbox: Outbox::new(alloc),
+                response: Vec::new(alloc),
+            },
             starved: 0,
-            response: Vec::new(alloc),
         }
     }
 }

@@ -1,6 +1,7 @@
--- The stages of a round: what each does to the steps and to all that is told by them.
-use Rattle.std.specs.Prelude.{◌≡◌, ℕ, ◌<◌, ◌≤◌, Bool, true, false, ◌⊎◌, List, [], ◌∷◌, ◌++◌, length, drop, set, Option, Some, None, option_map, IfSome, Ok, Err, ◌-◌, ◌^◌, min}
+-- The stages of a round: what each does to the sessions, the round that is being made, and all that is told by it.
+use Rattle.std.specs.Prelude.{◌≡◌, ℕ, ◌+◌, ◌-◌, ◌^◌, ◌<◌, ◌≤◌, Bool, true, false, ◌⊎◌, cond, min, List, [], ◌∷◌, ◌++◌, length, drop, set, Option, Some, None, option_map, Result, Ok, Err, MatchResult, nat_lt}
 use Rattle.farm_base.specs.Limits.{most_rest_bytes, most_sessions}
+use Rattle.farm_base.specs.declared.turns.Worn.{Worn}
 use Rattle.farm_history.specs.Lists.{Each}
 use Rattle.farm_history.specs.Entries.{Entry, Stop}
 use Rattle.farm_history.specs.declared.queues.Reply.{Reply}
@@ -23,14 +24,10 @@ use Rattle.front_loop.specs.declared.sessions.SessionTable.{SessionTable}
 use Rattle.front_loop.specs.declared.offering.Gave.{Gave}
 use Rattle.front_loop.specs.declared.offering.Gave.TheVariants as gave
 use Rattle.front_loop.specs.Rules.{Rules, Move}
-use Rattle.front_loop.specs.inner.Steps.{Step, Phase, Hearing, Collecting, Offering, phase, MayBegin, own, starved_in}
-use Rattle.front_loop.specs.Rounds.{has}
-use Rattle.front_loop.specs.inner.Parts.{told_after, EachMayCome}
-use Rattle.front_loop.specs.inner.Sound.{Sound}
-use Rattle.front_loop.specs.inner.StepRuns.{EndsAt}
+use Rattle.front_loop.specs.Rounds.{Gathered, Send, Departure, FrontRound, has}
 use Rattle.front_loop.specs.Front.{keeps, Hears, Replies, Begins}
 use Rattle.front_loop.specs.inner.Sessions.{conns, StandsAt, is_up, worse, owing, newcomer}
-use Rattle.front_loop.specs.inner.Stands.{World, Stands, IsAtRest}
+use Rattle.front_loop.specs.inner.Stands.{World, IsAtRest, AreTold, CanBegin, Makes}
 
 -- how a front ends at an event that begins no round
 abbrev pub EndsEarly : PortEvent → Option FrontEnd → Type 0
@@ -60,16 +57,21 @@ marked (event.Ended c) s = record s { disposition = Leaves reason.Ended }
 marked (event.Lost c) s = record s { disposition = Leaves reason.Lost }
 marked _ s = s
 
--- the round of this event hears or collects
-abbrev pub IsAt : PortEvent → Phase → Type 0
-IsAt e (Hearing f) = f ≡ e
-IsAt e (Collecting f) = f ≡ e
-IsAt _ _ = ⊥
+-- a round that has begun with this event, and these requests were done; true where an Opened made a session
+abbrev pub begun : {A : Type 0} → PortEvent → List ℕ → Bool → List A → FrontRound A
+begun e piece kept acts = record { event = e; piece = piece; kept = kept; acts = acts; replies = []; last = None; sends = []; left = [] }
 
--- the round of this event, whose last Collect was answered so, offers bytes
-abbrev pub IsOffering : PortEvent → Bool → Phase → Type 0
-IsOffering e stopped (Offering f was) = (f ≡ e) × (was ≡ stopped)
-IsOffering _ _ _ = ⊥
+-- a round in which these replies were collected so far
+abbrev pub collecting : {A : Type 0} → List Gathered → FrontRound A → FrontRound A
+collecting gs r = record r { replies = gs; last = None; sends = []; left = [] }
+
+-- a round whose last Collect was answered so, and these sends were made so far
+abbrev pub offering : {A : Type 0} → Bool → List Send → FrontRound A → FrontRound A
+offering stopped sends r = record r { last = Some stopped; sends = sends; left = [] }
+
+-- a round in which these connections were left so far
+abbrev pub leaving : {A : Type 0} → List Departure → FrontRound A → FrontRound A
+leaving ds r = record r { left = ds }
 
 -- no session owes an offer that is kept
 abbrev pub OwesNone : {T : Type 0} → Session T → Type 0
@@ -111,9 +113,9 @@ Shuts c why told told' = (is_up (Leaves why) ≡ true → told' ≡ option_map (
 
 -- the session of the connection, if it is there, is marked, and nothing else changes
 pub data MarksAt {T : Type 0} (e : PortEvent) (c : ℕ) (old new : SessionTable T) : Type 0 where
-  Absent : has (conns old.sessions.items) c ≡ false → new.sessions.items ≡ old.sessions.items → new.outbox ≡ old.outbox → new.starved ≡ old.starved → MarksAt e c old new
+  Absent : has (conns old.sessions.items) c ≡ false → new.sessions.items ≡ old.sessions.items → new.answers.outbox ≡ old.answers.outbox → new.starved ≡ old.starved → MarksAt e c old new
   Marks : (i : ℕ) (s : Session T) → StandsAt old.sessions.items i s → s.conn ≡ c → new.sessions.items ≡ set old.sessions.items i (marked e s)
-      → new.outbox ≡ old.outbox → new.starved ≡ old.starved → MarksAt e c old new
+      → new.answers.outbox ≡ old.answers.outbox → new.starved ≡ old.starved → MarksAt e c old new
 
 module _ {A W T : Type 0} (R : Rules A W) (K : List ℕ → List (Move A) → T → Type 0) where
   -- a piece is heard on a session that stays
@@ -147,57 +149,68 @@ module _ {A W T : Type 0} (R : Rules A W) (K : List ℕ → List (Move A) → T 
         → ((given : List ℕ) (ms : List (Move A)) → K given ms s.conn_state → done ≡ R.ends ms)
         → s' ≡ record s { owes = false; disposition = disposition_after g done s.disposition } → OffersOne s s' box box' told told'
 
-  -- A round that is cut short by a worn turn: its steps so far.
-  pub record CutShort (start told : Option PortsTold) (mine : List Entry) (starved : ℕ) : Type 0 where
-    pub steps : List (Step A)
-    pub entries : mine ≡ own R steps
-    pub telling : told ≡ option_map (told_after R steps) start
-    pub coming : IfSome start (EachMayCome R steps)
-    pub sound : Sound R steps
-    pub counted : starved ≡ min (starved_in steps) (2 ^ 64 - 1)
+  -- a round that is cut short by a worn turn, with the rounds before it
+  abbrev pub CutShort : Option PortsTold → Option PortsTold → List Entry → ℕ → Type 0
+  CutShort start told mine starved = (rounds : List (FrontRound A)) × AreTold R start told mine starved rounds
 
-  -- a round may begin
-  pub record CanBegin (start : Option PortsTold) (ss : List (Step A)) (w : World T) : Type 0 where
-    pub stands : Stands R K start ss w
-    pub rested : Each IsAtRest w.sessions
-    pub time : MayBegin (phase ss)
+  -- the event came, after which the ports tell the second
+  pub record Comes (e : PortEvent) (piece : List ℕ) (start told : Option PortsTold) (w : World T) : Type 0 where
+    pub rounds : List (FrontRound A)
+    pub can : CanBegin R K start rounds w
+    pub heard : HearsEvent e piece w.told told
 
-  -- a round has begun with this event
-  pub record HasBegun (e : PortEvent) (start : Option PortsTold) (w : World T) : Type 0 where
-    pub steps : List (Step A)
-    pub stands : Stands R K start steps w
-    pub time : IsAt e (phase steps)
+  -- a round has begun with this event, and replies may be collected
+  pub record CanCollect (e : PortEvent) (start : Option PortsTold) (w : World T) : Type 0 where
+    pub rounds : List (FrontRound A)
+    pub round : FrontRound A
+    pub replies : List Gathered
+    pub event_is : round.event ≡ e
+    pub makes : Makes R K start rounds (collecting replies round) w
 
-  -- replies may be collected
-  pub record Collects (e : PortEvent) (start : Option PortsTold) (ss : List (Step A)) (w : World T) : Type 0 where
-    pub stands : Stands R K start ss w
-    pub time : IsAt e (phase ss)
-
-  -- bytes may be offered
+  -- its last Collect was answered so, and bytes may be offered
   pub record CanOffer (e : PortEvent) (stopped : Bool) (start : Option PortsTold) (w : World T) : Type 0 where
-    pub steps : List (Step A)
-    pub stands : Stands R K start steps w
-    pub time : IsOffering e stopped (phase steps)
+    pub rounds : List (FrontRound A)
+    pub round : FrontRound A
+    pub sends : List Send
+    pub event_is : round.event ≡ e
+    pub makes : Makes R K start rounds (offering stopped sends round) w
 
-  -- connections may be left
+  -- bytes were offered, and connections may be left
   pub record CanLeave (e : PortEvent) (stopped : Bool) (start : Option PortsTold) (w : World T) : Type 0 where
-    pub steps : List (Step A)
-    pub stands : Stands R K start steps w
-    pub time : EndsAt e stopped (phase steps)
+    pub rounds : List (FrontRound A)
+    pub round : FrontRound A
+    pub event_is : round.event ≡ e
+    pub last_is : round.last ≡ Some stopped
+    pub makes : Makes R K start rounds round w
     pub offered : Each OwesNone w.sessions
 
-  -- a round is over
+  -- the round is over
   pub record IsOver (e : PortEvent) (stopped : Bool) (start : Option PortsTold) (w : World T) : Type 0 where
-    pub steps : List (Step A)
-    pub stands : Stands R K start steps w
-    pub time : EndsAt e stopped (phase steps)
+    pub rounds : List (FrontRound A)
+    pub round : FrontRound A
+    pub event_is : round.event ≡ e
+    pub last_is : round.last ≡ Some stopped
+    pub makes : Makes R K start rounds round w
     pub rested : Each IsAtRest w.sessions
 
-  -- The event came, after which the ports tell the second.
-  pub record Comes (e : PortEvent) (piece : List ℕ) (start told : Option PortsTold) (w : World T) : Type 0 where
-    pub steps : List (Step A)
-    pub can : CanBegin start steps w
-    pub heard : HearsEvent e piece w.told told
+  -- rounds may go on
+  abbrev pub CanGo : Option PortsTold → World T → Type 0
+  CanGo start w = (rounds : List (FrontRound A)) × CanBegin R K start rounds w
+
+  -- a round is over, or there was none; where the front ends, its cause
+  abbrev pub Goes : Option PortsTold → World T → Option FrontEnd → Type 0
+  Goes start w None = CanGo start w
+  Goes start w (Some ended.Finished) = IsOver event.Finished false start w
+  Goes start w (Some ended.Stopped) = (e : PortEvent) × IsOver e true start w
+  Goes start w (Some ended.NoMemory) = CanGo start w
+  Goes start w (Some ended.Broken) = (told : Option PortsTold) × (CanGo start (record w { told = told })) × (w.told ≡ option_map (heard event.Broken []) told)
+  Goes start w (Some ended.Worn) = ⊥
+
+  -- one Collect gave a reply, or the last answer
+  abbrev pub CollectsOne : PortEvent → Option PortsTold → World T → Collected → Type 0
+  CollectsOne e start w (collected.Reply r) = CanCollect e start w
+  CollectsOne e start w collected.Stopped = CanOffer e true start w
+  CollectsOne e start w collected.Empty = CanOffer e false start w
 
   -- a worn turn while a piece is heard
   pub record HearsWorn (c : ℕ) (piece : List ℕ) (mine mine' : List Entry) (conn_state : T) : Type 0 where
@@ -212,28 +225,15 @@ module _ {A W T : Type 0} (R : Rules A W) (K : List ℕ → List (Move A) → T 
     pub response : List ℕ
     pub replied : Replies R K reply mine mine' s.conn_state conn_state' response (Leaves reason.Starved)
 
-  -- one Collect gave a reply, or the last answer
-  abbrev pub CollectsOne : PortEvent → Option PortsTold → World T → Collected → Type 0
-  CollectsOne e start w (collected.Reply r) = (ss : List (Step A)) × Collects e start ss w
-  CollectsOne e start w collected.Stopped = CanOffer e true start w
-  CollectsOne e start w collected.Empty = CanOffer e false start w
-
-  -- rounds may go on
-  pub record CanGo (start : Option PortsTold) (w : World T) : Type 0 where
-    pub steps : List (Step A)
-    pub can : CanBegin start steps w
-
-  -- a round is over, or there was none; where the front ends, its cause
-  abbrev pub Goes : Option PortsTold → World T → Option FrontEnd → Type 0
-  Goes start w None = CanGo start w
-  Goes start w (Some ended.Finished) = IsOver event.Finished false start w
-  Goes start w (Some ended.Stopped) = (e : PortEvent) × IsOver e true start w
-  Goes start w (Some ended.NoMemory) = CanGo start w
-  Goes start w (Some ended.Broken) = (told : Option PortsTold) × (CanGo start (record w { told = told })) × (w.told ≡ option_map (heard event.Broken []) told)
-  Goes start w (Some ended.Worn) = ⊥
-
   -- a connection that is not there got a session; or nothing changed
   abbrev pub Admits : ℕ → SessionTable T → SessionTable T → Bool → Type 0
   Admits c old new true = (conn_state : T) × (Begins R K conn_state) × (length old.sessions.items < most_sessions) × (has (conns old.sessions.items) c ≡ false) × (new.sessions.items ≡ old.sessions.items ++ newcomer c conn_state ∷ [])
-      × (new.outbox ≡ old.outbox ++ (c, []) ∷ []) × (new.starved ≡ old.starved)
-  Admits c old new false = (new.sessions.items ≡ old.sessions.items) × (new.outbox ≡ old.outbox) × (new.starved ≡ old.starved)
+      × (new.answers.outbox ≡ old.answers.outbox ++ (c, []) ∷ []) × (new.starved ≡ old.starved)
+  Admits c old new false = (new.sessions.items ≡ old.sessions.items) × (new.answers.outbox ≡ old.answers.outbox) × (new.starved ≡ old.starved)
+
+  -- An Opened: its connection got a session, or was closed, and counted as starved where there was room for it.
+  abbrev pub Opens : ℕ → Option PortsTold → Option PortsTold → SessionTable T → SessionTable T → Type 0
+  Opens c told told' old new =
+      (Admits c old new true × (told' ≡ told))
+      ⊎ ((told' ≡ option_map (after_close c) told) × (new.sessions.items ≡ old.sessions.items) × (new.answers.outbox ≡ old.answers.outbox)
+      × (new.starved ≡ cond (nat_lt (length old.sessions.items) most_sessions) (min (old.starved + 1) (2 ^ 64 - 1)) old.starved))

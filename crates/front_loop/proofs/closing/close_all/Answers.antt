@@ -2,7 +2,6 @@ use Rattle.std.proofs.Common.{List, subst}
 use Rattle.farm_history.specs.Lists.{Each}
 use Rattle.front_loop.specs.declared.sessions.Session.{Session}
 use Rattle.front_loop.specs.inner.Sessions.{IsLeaving, StaysOn}
-use Rattle.front_loop.specs.inner.Stands.{world}
 use Rattle.front_loop.proofs.Lefts.{over}
 use Rattle.front_loop.proofs.closing.close_all.Goals as goal
 
@@ -20,6 +19,5 @@ returns-in_default-close_one-clause-goes g c = λ e stopped start h. c.in_defaul
 
 pub returns-clause-goes : goal.returns-clause-goes
 returns-clause-goes g c = λ e stopped start h.
-    over (g.F.Front.rules c.args.context.now.front.now c.args.context.now.farm.now) g.F.Front.knows e stopped start
-    (world (g.P.Ports.state c.loop-place.ports).told ((g.M.Farm.seats c.args.context.now.farm.now).mine c.loop-place.seat) c.loop-place.table) (c.loop-place.invariant.goes e stopped start h)
+    over (g.F.Front.rules c.args.work.now.front.now c.args.work.now.farm.now) g.F.Front.knows e stopped start _ (c.loop-place.invariant.goes e stopped start h)
     (subst (λ (ss : List (Session g.row.F-ConnState.Denot)). Each StaysOn ss) c.as_slice.ensures.value c.in_default.ensures.none)

@@ -1,16 +1,19 @@
-use Rattle.std.proofs.Common.{List, Option}
+use Rattle.std.proofs.Common.{Option}
+use Rattle.farm_base.specs.Outside.{Outside}
 use Rattle.port_events.specs.Told.{PortsTold}
 use Rattle.port_events.specs.declared.events.PortEvent.{PortEvent}
-use Rattle.front_loop.specs.inner.Steps.{Step}
 use Rattle.front_loop.specs.Calls.{SameSeat}
-use Rattle.front_loop.specs.inner.Stands.{world}
-use Rattle.front_loop.specs.inner.Stages.{Collects}
+use Rattle.front_loop.specs.inner.Stages.{CanCollect}
+use Rattle.front_loop.specs.inner.Moments.{at, world}
 use Rattle.front_loop.proofs.collecting.collect_all.Given as goal
 
 abbrev pub invariant-loop : goal.invariant-loop
-invariant-loop g l = record {
-  seat : SameSeat (g.M.Farm.seats l.context.farm.now) l.fn.seat l.seat;
-  goes : (e : PortEvent) (start told : Option PortsTold) (ss : List (Step g.row.F-Act.Denot))
-      → Collects (g.F.Front.rules l.context.front.now l.context.farm.now) g.F.Front.knows e start ss (world told ((g.M.Farm.seats l.context.farm.now).mine l.fn.seat) l.fn.table)
-      → (more : List (Step g.row.F-Act.Denot)) × Collects (g.F.Front.rules l.context.front.now l.context.farm.now) g.F.Front.knows e start more (world told ((g.M.Farm.seats l.context.farm.now).mine l.seat) l.table);
-}
+invariant-loop g l =
+    let R = g.F.Front.rules l.work.front.now l.work.farm.now in
+    let seats = g.M.Farm.seats l.work.farm.now in
+    record {
+      seat : SameSeat seats l.fn.seat l.seat;
+      goes : (o : Outside PortsTold) (e : PortEvent) (start : Option PortsTold)
+          → CanCollect R g.F.Front.knows e start (world R g.F.Front.knows seats (at o l.fn.seat l.fn.table))
+          → CanCollect R g.F.Front.knows e start (world R g.F.Front.knows seats (at o l.seat l.table));
+    }

@@ -6,5 +6,5 @@ use Rattle.front_loop.proofs.Rests.{none_keyed}
 use Rattle.front_loop.proofs.hearing.admit.Goals as goal
 
 pub add-requires : goal.add-requires
-add-requires g c = none_keyed c.args.table.now.outbox c.args.conn
+add-requires g c = none_keyed c.args.table.now.answers.outbox c.args.conn
     (ap (λ cs. has cs c.args.conn) c.requires ∙ subst (λ (ss : List (Session g.row.F-ConnState.Denot)). has (conns ss) c.args.conn ≡ false) c.as_slice.ensures.value c.in-None.ensures.none)
