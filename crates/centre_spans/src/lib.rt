@@ -1,5 +1,8 @@
 //! Which columns and rows of a window have their centres in a stretch of the world, and the loop that
 //! sets the bits of a shape within its own rows and columns.
+//!
+//! What is proved: which columns and rows have their centres in a stretch, and the roots and quotients for it: each
+//! function equals its definition; `mark` sets the bits of a shape's stretches and no others.
 #![tactic(auto)]
 
 mod marking;

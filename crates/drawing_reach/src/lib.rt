@@ -1,6 +1,11 @@
 //! What a feature reaches: laws over the definitions of the drawing alone, for all features.
 //!
 //! Each function here has an empty body. Its contract is the law, and the check proves it.
+//!
+//! What is proved: What a symbolizer within its ranges covers lies within 64 pixels of the box of its points
+//! (`law_covers_within_reach`); the test on a square's edges says whether a feature reaches it (`law_reach_by_edges`);
+//! a feature that does not reach a tile changes no pixel of it, in a style whose symbolizers keep their ranges
+//! (`law_unreached_unchanged`).
 #![tactic(auto)]
 
 ghost use Rattle.drawing_reach.specs.Laws.{LawByEdges, LawWithin, LawUnreached};

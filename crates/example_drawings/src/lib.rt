@@ -3,6 +3,9 @@
 //! Each function here has an empty body. Its contract holds examples over the definitions of what is
 //! drawn, and the check computes them: so the definitions say what these examples say. `specs/Examples.antt` has
 //! the maps and shapes.
+//!
+//! What is proved: Drawings worked out by hand, computed from the definitions: whole tiles of polygons and grids, how
+//! many pixels strokes, caps, outlines and marks cover, scales, filter modes.
 #![tactic(auto)]
 
 ghost use Rattle.std.specs.Prelude.{◌≡◌, ◌^◌, ◌*◌, ◌∷◌, ◌++◌, [], true, false, None, Some, replicate, codes};

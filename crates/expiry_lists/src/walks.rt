@@ -58,7 +58,8 @@ pub fn parent(key: Key) -> Key
     }
 }
 
-/// Whether some key of the groups from zoom 3 on may be clean.
+/// Whether some key of the groups from zoom 3 on may be clean. No clause tells the answer: it chooses between two
+/// ways to expire the whole world that both are exact, for their speed alone.
 pub fn is_some_live(nodes: &Nodes, groups: &[u32]) -> bool {
     groups.iter().any(|group| is_live(nodes, world_key(*group, ROOT_ZOOM), u64::MAX))
 }

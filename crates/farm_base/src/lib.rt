@@ -1,6 +1,12 @@
 //! What every crate of the farm shares: want of memory, turns that are used up, limits, texts, bytes and
 //! attribute values, the traits of the outside with their forms in memory and over the real files and
 //! streams, and bells and gates.
+//!
+//! What is proved: Files and sinks as traits: an object that tells has a content and a list of failed calls; a call
+//! fails only where the count of faults rose (`Files::read`, `Sink::put`). `MemFiles` and `MemSink` do exactly what
+//! `specs/InMemory` says. `DiskFiles` and `OutSink` keep the traits without telling their content; a put of `OutSink`
+//! that is Ok has appended the whole piece to a writer whose bytes are known (`written`). Bells and gates promise
+//! nothing.
 #![tactic(auto)]
 
 mod bells;

@@ -1,4 +1,8 @@
 //! Configurations of a farm: JSON texts, read whole, each fault by the number of its key.
+//!
+//! What is proved: `read_config`: the configuration that the text says, or the first fault in reading order with its
+//! key (`config_in`, laid out as the table of `docs/operate/config.md`); what is read keeps its limits, names its maps
+//! apart, and restyles maps that are there.
 #![tactic(auto)]
 
 mod addresses;

@@ -1,5 +1,8 @@
 //! Histories of a farm: the plain types of its events and answers, and, in `specs/`, what a history
 //! tells of the past, which answer each event has, and the laws that follow.
+//!
+//! What is proved: what a legal history of thirteen events is, and the laws of it that crates above carry in their
+//! contracts.
 #![tactic(auto)]
 
 mod answers;

@@ -5,6 +5,16 @@
 //! proves it: what a call of a farm promises in these words holds with the laws. `specs/Promise.antt` says the four
 //! sentences: in terms of a farm's own plan, of the plain drawing of its styles over its data, and of where entries
 //! stand in the history. Each legal history keeps them.
+//!
+//! What is proved: `law_sound`, `law_apart` and `law_one_reply` for every plan and every history, `law_local`: of the
+//! plain drawing, a tile depends on the features alone that reach it; `law_now` for every valid farm plan whose
+//! symbolizers keep their ranges, and histories without plain updates, over a store that tells; `law_resumed`: the
+//! replay of what is saved of a legal history resumes it; worked histories are legal and mistaken ones are not, by
+//! computation. `law_promise`: each legal history of a valid plan keeps the four sentences of `specs/Promise.antt`:
+//! every tile sent as clean is the plain drawing, byte for byte, of its map's style over the data of one version, taken
+//! after the last entry that touches it; between two Claims of one metatile stands the Finish of the first; what is
+//! touched while it is being drawn stays dirty until a drawing that was claimed later is stored; every Done names a
+//! metatile that was clean at the ask or stored after it.
 #![tactic(auto)]
 
 ghost use Rattle.std.specs.Prelude.{true, false, ◌≡◌};

@@ -3,6 +3,10 @@
 //!
 //! `specs/` says what such a plan means for the farm's histories: the tiles that it draws are the plain
 //! drawings of its styles over its data.
+//!
+//! What is proved: What a farm is started with, and what it means for histories (`plan_of`): its drawing is the plain
+//! drawing of its styles over its data, an update has the first fault of its changes and reaches what its features
+//! reach.
 #![tactic(auto)]
 
 mod plans;

@@ -1,5 +1,9 @@
 //! Saved farms: the text in which a farm that stops in order keeps its styles, its updates and its clean
 //! metatiles, both ways.
+//!
+//! What is proved: `write_saved`: the text of what is saved, which must be sound; `read_saved`: what the text says,
+//! which is sound, or the first fault in reading order (`saved_in`); the first is read back by the second
+//! (`law_reads_back`); in every valid plan the replay of what is saved resumes the history (`law_resumed`).
 #![tactic(auto)]
 
 mod fault;

@@ -1,4 +1,9 @@
 //! Filter expressions: read from a text by their grammar, and evaluated.
+//!
+//! What is proved: `parse`: the tree that the grammar gives the text, or its first fault with place and kind, both ways
+//! (`FilterOf`, `FaultOf`), but for want of memory; each text has one list of tokens, which spell one filter at most
+//! (`law_one_tree`), and one tree or one first fault, never both (`law_one_answer`); the function that reads by tokens
+//! gives exactly these (`law_says`). `eval` and `holds` equal the value by cases.
 #![tactic(auto)]
 
 mod faults;

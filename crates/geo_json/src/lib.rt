@@ -1,4 +1,6 @@
 //! Data and updates as JSON texts: the dataset or update that a text says, or its first fault.
+//!
+//! What is proved: `read_data` and `read_update`: what the text says, or the first fault by place.
 #![tactic(auto)]
 
 mod attributes;

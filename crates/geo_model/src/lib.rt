@@ -1,4 +1,6 @@
 //! Features: shapes of the world with attributes, within the limits of the farm's data.
+//!
+//! What is proved: `make_feature` with its faults in order.
 #![tactic(auto)]
 
 mod bounds;

@@ -1,4 +1,7 @@
 //! Tiles, metatiles, squares and windows of the fixed world of `2^30` by `2^30` units, in whole numbers.
+//!
+//! What is proved: tiles, metatiles, squares, windows, centres and Mercator coordinates: each function equals its
+//! definition, `None` exactly outside its range.
 #![tactic(auto)]
 
 mod coordinates;

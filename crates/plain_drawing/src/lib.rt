@@ -1,6 +1,10 @@
 //! What is meant by a drawing: styles with their rules, grids, and the colour of each point of a tile.
 //!
 //! It joins the world, shapes, data and filters. Styles, raster files and the drawing of tiles stand on it.
+//!
+//! What is proved: Definitions of styles and of the drawing, and laws of them that proofs above use: a fold of pictures
+//! is the fold at each centre (for `draw_tile`), a tile is the cut of its metatile's picture (for `draw_meta`).
+//! `Grid::at` is the grid's pixel under a point, `MapStyle::bind` keeps the rest of the style.
 #![tactic(auto)]
 
 mod grid;

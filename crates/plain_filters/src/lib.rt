@@ -2,6 +2,8 @@
 //!
 //! It needs no world and no shapes. The crates of filters stand on it (`filter_expr`, `filter_texts`), and
 //! styles, whose rules have filters.
+//!
+//! What is proved: definitions alone.
 #![tactic(auto)]
 
 mod expr;

@@ -4,6 +4,9 @@
 //!
 //! The crates of pictures stand on it (`plain_image`, `raster_core`, `stroke_core`, `mark_core`), those of features
 //! and their versions (`geo_model`, `data_versions`, `geo_json`), and what draws features.
+//!
+//! What is proved: definitions, and laws of them that crates above carry in their contracts: centres and marked bits by
+//! their places.
 #![tactic(auto)]
 
 mod colour;

@@ -1,4 +1,6 @@
 //! Raster layers: base pictures that lie under the vector layers of a map.
+//!
+//! What is proved: `make_grid`; `law_same_scale`: at a window's own scale a picture is drawn as it is.
 #![tactic(auto)]
 
 mod grids;

@@ -1,6 +1,12 @@
 //! What a feature reaches: its bounding box, widened by 64 pixels on each side. Within it lies all that any
 //! symbolizer paints of the feature, so a change of the feature changes no tile outside. And what an update of a
 //! farm reaches: the boxes of the features that it names, and the marks of the metatiles that these reach.
+//!
+//! What is proved: `reaches`: some point of the square lies in the feature's bounding box widened by 64 pixels on each
+//! side, both ways; `box_of`: the box by which many squares are tested says the same. What an update reaches:
+//! `named_boxes` gives the bounding boxes of the features that it names, old and new, looked up by their ids (by a
+//! table of them where many are named); `mark_maps_dirty` makes dirty exactly the marks that these reach, on every map
+//! and zoom, and counts those that were clean.
 #![tactic(auto)]
 
 ghost use Rattle.std.specs.Prelude.{◌≡◌, ℕ, ◌≤◌, ◌↔◌, IsTrue};

@@ -1,6 +1,10 @@
 //! Readers of JSON values with exact first faults: the steps, kinds of values, keys and lists that the
 //! readers of styles, data, updates and configurations are made of; and the lines of texts, which those of
 //! scripts and expiry lists go by. Each is generic in its fault.
+//!
+//! What is proved: Readers of JSON values: the value or the first fault in reading order, over what `serde_json` reads
+//! (`read_json`, `opened`, `within`, `read_list`, ..); the lines of texts (`items_after`, by which scripts and expiry
+//! lists are read).
 #![tactic(auto)]
 
 mod json;

@@ -1,4 +1,10 @@
 //! The renderd front: it reads the messages of renderd's protocol, asks the farm, and answers.
+//!
+//! What is proved: `Renderd`, a front by its number, over any farm: its `Rules`
+//! (`crates/renderd_handler/specs/Renderd.antt`) are renderd's. The asks of a connection are its requests with the
+//! commands 1, 5, 7, 6 and 2, in order, as Render, Prio, Low, Bulk and Dirty, however its bytes are cut; a request of
+//! version 1 names the map `default`; Done is answered with the command 3, every NotDone with 4, Dirty with nothing; an
+//! ask that waits is answered when its reply is collected, once; an unknown version ends the connection.
 #![tactic(auto)]
 
 mod asked;

@@ -1,5 +1,8 @@
 //! The messages of renderd's protocol, both ways, and the law that they do not depend on how the
 //! bytes of a connection were cut.
+//!
+//! What is proved: `next` and `write` equal the table of the messages; whole messages are found, written ones are read
+//! back, and the messages are the same however the bytes are cut (three laws).
 #![tactic(auto)]
 
 mod laws;

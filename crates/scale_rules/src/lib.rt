@@ -1,4 +1,7 @@
 //! Scales: the denominator of a zoom, and whether a rule or a layer is active at it.
+//!
+//! What is proved: scale denominators and what is active at one: each function equals its definition, `None` exactly
+//! outside its range.
 #![tactic(auto)]
 
 ghost use Rattle.std.specs.Prelude.{◌≡◌, ◌*◌, ◌^◌, ◌<◌, ◌≤◌};

@@ -1,4 +1,7 @@
 //! Ports over the system's sockets, TCP and Unix, and the bell that wakes them.
+//!
+//! What is proved: `SocketPorts` keeps the trait of ports without telling its content: it counts its failures, and its
+//! pieces have 1 to 4,096 bytes.
 #![tactic(auto)]
 
 mod address;

@@ -1,5 +1,9 @@
 //! Strokes of lines and outlines of rings, in whole numbers: of each segment, join and cap the
 //! stretch of each row is computed, and no centre is tested.
+//!
+//! What is proved: strokes and outlines: after a call a bit is set exactly where it was set or its centre lies in the
+//! shape; after want of memory only bits that belong were set. They go on any `Surface`, of whose bits the same is
+//! said. That they are set by stretches of columns no contract says.
 #![tactic(auto)]
 
 mod bodies;

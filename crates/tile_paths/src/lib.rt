@@ -1,4 +1,7 @@
 //! The paths of stored metatiles, both ways. Nothing here takes memory.
+//!
+//! What is proved: `path` and `read_path` are inverse, and no two metatiles have one path (`law_one_path`); `is_name`
+//! says which names of maps have paths.
 #![tactic(auto)]
 
 mod laws;

@@ -1,4 +1,8 @@
 //! The program.
+//!
+//! What is proved: `program` takes the words from a runtime and calls `farm_main`, and keeps the same of the words that
+//! it hands on, or had none (`ProgramKeeps`); which words they are is in no clause. `run_program` makes the real files,
+//! streams, store and ports and calls `program`; `main` calls it.
 #![tactic(auto)]
 
 mod running;
