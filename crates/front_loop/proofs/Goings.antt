@@ -1,5 +1,5 @@
 -- From round to round, and to a front's end.
-use Rattle.std.proofs.Common.{◌≡◌, ◌==◌, ℕ, Bool, true, false, cond, List, [], ◌∷◌, ◌++◌, map, Option, Some, None, option_map, IfSome, refl, sym, ap, subst, ◌∙◌, inl, inr, ◌⊎◌}
+use Rattle.std.proofs.Common.{◌≡◌, ℕ, Bool, true, false, cond, List, [], ◌∷◌, ◌++◌, map, Option, Some, None, option_map, IfSome, refl, sym, ap, subst, ◌∙◌, inl, inr, ◌⊎◌}
 use Rattle.std.specs.Prelude.{◌≢◌}
 use Rattle.std.proofs.lemmas.List.{append-nil}
 use Rattle.farm_history.specs.Lists.{Each}
@@ -13,12 +13,12 @@ use Rattle.port_events.specs.Told.{PortsTold, heard}
 use Rattle.port_events.specs.Boxes.{rest_at, rest_of, as_rest}
 use Rattle.front_loop.specs.declared.sessions.Session.{Session}
 use Rattle.front_loop.specs.Rules.{Rules, Move}
-use Rattle.front_loop.specs.Rounds.{FrontRound, has, there, own}
-use Rattle.front_loop.specs.Conns.{conn, before, made, told_after, Kept}
+use Rattle.front_loop.specs.Rounds.{FrontRound, has, there}
+use Rattle.front_loop.specs.Conns.{conn, before, made, Kept}
 use Rattle.front_loop.specs.RoundRules.{EndsWhole, MayFollow}
 use Rattle.front_loop.specs.Serving.{EndHasCause, rests_of, FrontRun}
 use Rattle.front_loop.specs.inner.Sessions.{conns, keys, Apart}
-use Rattle.front_loop.specs.inner.Stands.{World, IsAtRest, AreTold, EachMayCome, Stands, Sits, Waits, untaken, CanBegin}
+use Rattle.front_loop.specs.inner.Stands.{World, IsAtRest, AreTold, EachMayCome, Stands, Sits, Waits, untaken}
 use Rattle.front_loop.specs.inner.Stages.{IsOver, CanGo, Goes, CutShort, end_of, StopsAfter}
 use Rattle.front_loop.proofs.Tables.{other, same, each_weaker, each_both, each_conn, not_first}
 use Rattle.front_loop.proofs.Sitting.{clash, waits_again, kept_again}

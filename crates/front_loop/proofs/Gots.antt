@@ -1,5 +1,5 @@
 -- Replies: one session as a reply comes for it, and all else.
-use Rattle.std.proofs.Common.{◌≡◌, ◌==◌, ◌<◌, ◌≤◌, ◌+◌, ℕ, Bool, true, false, not, ◌&&◌, ◌||◌, cond, List, [], ◌∷◌, ◌++◌, length, map, set, drop, Option, Some, None, refl, sym, ap, subst, ◌∙◌, arith, nat_lt, append_assoc, length-append, inl, inr, ◌⊎◌}
+use Rattle.std.proofs.Common.{◌≡◌, ◌==◌, ◌<◌, ◌≤◌, ◌+◌, ℕ, Bool, true, false, ◌||◌, cond, List, [], ◌∷◌, ◌++◌, length, map, set, drop, Option, Some, None, refl, sym, ap, subst, ◌∙◌, arith, nat_lt, append_assoc, length-append, inl, inr, ◌⊎◌}
 use Rattle.std.specs.List.{list_any}
 use Rattle.std.proofs.Math.Bool.{or-false}
 use Rattle.std.proofs.lemmas.Bool.{lt-ltb, le-ltb, ltb-true, or_parts, eqb-true}
@@ -12,7 +12,7 @@ use Rattle.farm_history.specs.declared.queues.Outcome.{Outcome}
 use Rattle.farm_history.specs.declared.queues.Outcome.TheVariants as outcome
 use Rattle.farm_history.specs.declared.answers.Collected.TheVariants as collected
 use Rattle.port_events.specs.declared.events.PortEvent.{PortEvent}
-use Rattle.port_events.specs.Told.{PortsTold, IsOpen}
+use Rattle.port_events.specs.Told.{PortsTold}
 use Rattle.port_events.specs.Boxes.{rest_at, put_rest, HasRest, rest_in}
 use Rattle.front_loop.specs.declared.dispositions.Disposition.{Disposition}
 use Rattle.front_loop.specs.declared.dispositions.Disposition.TheVariants.{Stays, Leaves}
@@ -21,11 +21,11 @@ use Rattle.front_loop.specs.declared.dispositions.Reason.TheVariants as reason
 use Rattle.front_loop.specs.declared.sessions.Session.{Session}
 use Rattle.front_loop.specs.Rules.{EachSoFar, Rules, Move, Gets, is_cut, wants_of, answer_bytes, each_whole}
 use Rattle.front_loop.specs.Rounds.{Gathered, FrontRound, has}
-use Rattle.front_loop.specs.Conns.{Standing, ends_at, loses, calls, made, after, before, is_open, closes, Unclosed, MayLack, InHearing, AtReply, AtOffer}
+use Rattle.front_loop.specs.Conns.{Standing, ends_at, loses, calls, made, after, before, closes, Unclosed, MayLack, InHearing, AtReply, AtOffer}
 use Rattle.front_loop.specs.RoundRules.{RoundFits}
 use Rattle.front_loop.specs.Front.{keeps, RepliedWhy, MayStandAlone}
 use Rattle.front_loop.specs.inner.Sessions.{conns, keys, Apart, StandsAt, is_up, asks_all, worse, owing, woken}
-use Rattle.front_loop.specs.inner.Stands.{World, IsEarly, StarvesNow, has_reason, AllAsked, DispositionFits, Keeping, Sits, AreTold, Makes}
+use Rattle.front_loop.specs.inner.Stands.{World, IsEarly, StarvesNow, has_reason, AllAsked, DispositionFits, Keeping, Sits, AreTold}
 use Rattle.front_loop.specs.inner.Stages.{collecting, offering, Settles, Passes, Holds, Overflows, Starves, AnswersOne, AnswersWorn, RepliesOne, Passed, Cuts, Answers, CanCollect, CanOffer, CutShort}
 use Rattle.front_loop.proofs.Tables.{other, same, conns_set, conns_woken, each_set, each_none, each_woken, each_weaker, each_at}
 use Rattle.front_loop.proofs.Rests.{at_put}

@@ -21,7 +21,7 @@ use Rattle.front_loop.specs.inner.Stands.{untaken, has_reason, AllAsked, Starves
 use Rattle.front_loop.specs.inner.Stages.{begun, Settles, Passes, Holds, Overflows, Starves, HearsOne}
 use Rattle.front_loop.proofs.Tables.{same, other}
 use Rattle.front_loop.proofs.Rests.{at_put}
-use Rattle.front_loop.proofs.Sitting.{clash, or_none, or_left, grew_by, each_is, each_split, whole_asked, text_grows, due_grows, within, beyond, calm_unclosed, starves_now, sits_as}
+use Rattle.front_loop.proofs.Sitting.{clash, grew_by, each_is, each_split, whole_asked, text_grows, due_grows, within, beyond, starves_now, sits_as}
 
 pub holds_rest : (box : List (ℕ × List ℕ)) (c : ℕ) (r : List ℕ) → HasRest box c → rest_in (put_rest box c r) c ≡ r
 holds_rest box c r h = ap rest_of (at_put box c r h)

@@ -1,7 +1,7 @@
 -- A connection is left, and all else.
-use Rattle.std.proofs.Common.{◌≡◌, ◌==◌, ◌+◌, ◌-◌, ◌^◌, ℕ, suc, Bool, true, false, not, ◌||◌, cond, List, [], ◌∷◌, ◌++◌, min, take, drop, Option, Some, None, option_map, refl, sym, ap, subst, ◌∙◌, arith}
+use Rattle.std.proofs.Common.{◌≡◌, ◌+◌, ◌-◌, ◌^◌, ℕ, suc, Bool, true, false, cond, List, [], ◌∷◌, ◌++◌, min, take, drop, Option, option_map, refl, sym, ap, subst, ◌∙◌, arith}
 use Rattle.std.specs.Prelude.{◌≢◌}
-use Rattle.farm_history.specs.Lists.{Each, without_first}
+use Rattle.farm_history.specs.Lists.{Each}
 use Rattle.farm_history.specs.Entries.{Entry, Leave}
 use Rattle.port_events.specs.declared.events.PortEvent.{PortEvent}
 use Rattle.port_events.specs.Told.{PortsTold, IsOpen, after_close}
@@ -11,16 +11,16 @@ use Rattle.front_loop.specs.declared.dispositions.Reason.{Reason}
 use Rattle.front_loop.specs.declared.dispositions.Reason.TheVariants as reason
 use Rattle.front_loop.specs.declared.sessions.Session.{Session}
 use Rattle.front_loop.specs.Rules.{EachSoFar, Rules, Move}
-use Rattle.front_loop.specs.Rounds.{Send, Departure, FrontRound, has, gone, there, starved_in, with_starved}
-use Rattle.front_loop.specs.Conns.{Standing, conn, before, made, is_open, closes, MayLack, InHearing, AtReply, AtOffer, told_after}
-use Rattle.front_loop.specs.RoundRules.{SendFits, IsStarved, LeaveFits, RoundFits}
+use Rattle.front_loop.specs.Rounds.{Send, Departure, FrontRound, has, there, starved_in, with_starved}
+use Rattle.front_loop.specs.Conns.{Standing, conn, before, made, is_open, closes, told_after}
+use Rattle.front_loop.specs.RoundRules.{SendFits, IsStarved, LeaveFits}
 use Rattle.front_loop.specs.Front.{keeps}
 use Rattle.front_loop.specs.inner.Sessions.{conns, Apart, StandsAt, IsLeaving, is_up, asks_all}
-use Rattle.front_loop.specs.inner.Stands.{World, IsAtRest, AllAsked, DispositionFits, Keeping, Sits, Makes}
-use Rattle.front_loop.specs.inner.Stages.{leaving, OwesNone, CanLeave, IsOver, Shuts}
+use Rattle.front_loop.specs.inner.Stands.{World, IsAtRest, DispositionFits, Sits}
+use Rattle.front_loop.specs.inner.Stages.{OwesNone, CanLeave, IsOver, Shuts}
 use Rattle.front_loop.proofs.Tables.{other, remove, remove_is, has_at, conns_less, each_less, each_at, each_both, each_weaker, apart_remove}
 use Rattle.front_loop.proofs.Rests.{other_without, keys_without}
-use Rattle.front_loop.proofs.Sitting.{clash, closes_again, starved_again, others, sits_again}
+use Rattle.front_loop.proofs.Sitting.{closes_again, starved_again, others, sits_again}
 use Rattle.front_loop.proofs.Worlds.{told_more, open_by}
 
 one_less : (i : ℕ) → i + 1 ≡ suc i

@@ -1,5 +1,5 @@
 -- A connection is opened: it gets a session, or is closed.
-use Rattle.std.proofs.Common.{◌≡◌, ◌==◌, ◌<◌, ◌+◌, ◌-◌, ◌^◌, ℕ, suc, Bool, true, false, ◌&&◌, cond, List, [], ◌∷◌, ◌++◌, length, min, Option, Some, None, option_map, IfSome, refl, sym, ap, subst, ◌∙◌, arith, nat_lt, inl, inr, ◌⊎◌}
+use Rattle.std.proofs.Common.{◌≡◌, ◌==◌, ◌<◌, ◌+◌, ◌-◌, ◌^◌, ℕ, suc, Bool, true, false, ◌&&◌, cond, List, [], ◌∷◌, ◌++◌, length, min, Option, Some, None, option_map, IfSome, refl, sym, ap, subst, ◌∙◌, arith, nat_lt, inl, inr}
 use Rattle.std.proofs.Math.Bool.{and-false}
 use Rattle.std.proofs.lemmas.Bool.{eqb-true, le-ltb}
 use Rattle.farm_base.specs.Limits.{most_rest_bytes, most_sessions}
@@ -15,7 +15,7 @@ use Rattle.front_loop.specs.declared.sessions.Session.{Session}
 use Rattle.front_loop.specs.declared.sessions.SessionTable.{SessionTable}
 use Rattle.front_loop.specs.Rules.{Rules, Move}
 use Rattle.front_loop.specs.Rounds.{FrontRound, has, starved_in, there}
-use Rattle.front_loop.specs.Conns.{Standing, blank, conn, before, closes, told_after}
+use Rattle.front_loop.specs.Conns.{blank, conn, before, closes, told_after}
 use Rattle.front_loop.specs.RoundRules.{RoundFits}
 use Rattle.front_loop.specs.Front.{Begins}
 use Rattle.front_loop.specs.inner.Sessions.{conns, keys, Apart, newcomer}

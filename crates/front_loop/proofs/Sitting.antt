@@ -7,8 +7,6 @@ use Rattle.std.proofs.lemmas.Bool.{lt-ltb, le-ltb, ltb-false}
 use Rattle.std.proofs.lemmas.Bool.Decides.{nat_tests}
 use Rattle.std.proofs.lemmas.List.{drop-append-le, length-drop}
 use Rattle.farm_base.specs.Limits.{most_rest_bytes}
-use Rattle.farm_history.specs.declared.queues.Reply.{Reply}
-use Rattle.farm_history.specs.Entries.{Entry}
 use Rattle.port_events.specs.declared.events.PortEvent.{PortEvent}
 use Rattle.port_events.specs.Told.{PortsTold, IsOpen}
 use Rattle.port_events.specs.Boxes.{rest_at, HasRest, rest_in, rest_of}
@@ -17,7 +15,7 @@ use Rattle.front_loop.specs.declared.dispositions.Disposition.TheVariants.{Stays
 use Rattle.front_loop.specs.declared.dispositions.Reason.{Reason}
 use Rattle.front_loop.specs.declared.dispositions.Reason.TheVariants as reason
 use Rattle.front_loop.specs.declared.sessions.Session.{Session}
-use Rattle.front_loop.specs.Rules.{EachSoFar, Rules, Move, Gets, is_cut, wants_of, answer_bytes, each_whole}
+use Rattle.front_loop.specs.Rules.{EachSoFar, Rules, Move, is_cut, wants_of, answer_bytes, each_whole}
 use Rattle.front_loop.specs.Rounds.{Gathered, Send, Departure, FrontRound, in_turn}
 use Rattle.front_loop.specs.Conns.{Standing, ends_at, loses, calls, brings, is_tried, send_fails, made, after, is_open, closes, Unclosed, MayLack, InHearing, AtReply, AtOffer, Kept}
 use Rattle.front_loop.specs.RoundRules.{IsStarved}

@@ -1,13 +1,12 @@
 -- What the ports tell of a connection after rounds that fit.
-use Rattle.std.proofs.Common.{◌≡◌, ◌==◌, ◌≤◌, ◌<◌, ◌+◌, ℕ, Bool, true, false, not, ◌&&◌, ◌||◌, cond, List, [], ◌∷◌, ◌++◌, length, drop, take, Option, Some, None, IfSome, refl, sym, ap, subst, ◌∙◌, arith, append_assoc, length-append}
-use Rattle.std.specs.Prelude.{ok_or, unwrap_or, ◌≢◌}
+use Rattle.std.proofs.Common.{◌≡◌, ◌==◌, ◌≤◌, ◌+◌, ℕ, Bool, true, false, not, ◌&&◌, ◌||◌, cond, List, [], ◌∷◌, ◌++◌, length, drop, take, Option, Some, None, IfSome, refl, sym, ap, subst, ◌∙◌, arith, append_assoc, length-append}
+use Rattle.std.specs.Prelude.{ok_or, unwrap_or}
 use Rattle.std.specs.Option.{is_none}
 use Rattle.std.specs.List.{list_all}
 use Rattle.std.proofs.Math.Bool.{and-false}
 use Rattle.std.proofs.lemmas.Bool.{eqb-true}
 use Rattle.std.proofs.lemmas.List.{append-nil, take-append-le, length-drop}
 use Rattle.std.proofs.Math.Seq.{take-add}
-use Rattle.farm_history.specs.Lists.{without_first}
 use Rattle.port_events.specs.declared.events.PortEvent.{PortEvent}
 use Rattle.port_events.specs.declared.events.PortEvent.TheVariants as event
 use Rattle.port_events.specs.declared.events.SendFault.TheVariants as send_fault
@@ -15,13 +14,13 @@ use Rattle.port_events.specs.Told.{PortsTold, MayCome, heard, after_send, after_
 use Rattle.front_loop.specs.declared.dispositions.Reason.TheVariants as reason
 use Rattle.front_loop.specs.Rules.{EachSoFar, Rules, Move, answer_bytes}
 use Rattle.front_loop.specs.Rounds.{Send, Departure, FrontRound, in_turn, has, gone, connections_after, there}
-use Rattle.front_loop.specs.Conns.{Standing, opens, loses, brings, shut_out, is_tried, send_fails, made, after, blank, conn, before, is_open, due, told_after}
-use Rattle.front_loop.specs.RoundRules.{SendFits, LeaveFits, EndsWhole, MayFollow, RoundFits}
+use Rattle.front_loop.specs.Conns.{Standing, opens, loses, shut_out, is_tried, send_fails, made, blank, conn, before, is_open, due, told_after}
+use Rattle.front_loop.specs.RoundRules.{SendFits, MayFollow, RoundFits}
 use Rattle.front_loop.specs.Serving.{TellsOf}
 use Rattle.front_loop.specs.inner.Sessions.{Apart}
 use Rattle.front_loop.specs.inner.Stands.{EachMayCome}
 use Rattle.front_loop.proofs.Tables.{same, flipped, has_more, apart_snoc, apart_remove, remove, remove_is}
-use Rattle.front_loop.proofs.Sitting.{clash, text_grows, took_after, untried_took}
+use Rattle.front_loop.proofs.Sitting.{clash, took_after, untried_took}
 
 nil_front : (xs ys : List ℕ) → xs ++ ys ≡ [] → xs ≡ []
 nil_front [] ys h = refl

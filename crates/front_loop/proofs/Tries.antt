@@ -1,9 +1,7 @@
 -- Offers: one session as its bytes are offered, and all else.
-use Rattle.std.proofs.Common.{◌≡◌, ◌==◌, ◌<◌, ◌≤◌, ◌+◌, ℕ, zero, suc, Bool, true, false, not, ◌&&◌, ◌||◌, cond, List, [], ◌∷◌, ◌++◌, length, set, take, drop, Option, Some, None, option_map, IfSome, Ok, Err, refl, sym, ap, subst, ◌∙◌, arith, inl, inr, ◌⊎◌}
+use Rattle.std.proofs.Common.{◌≡◌, ◌==◌, ◌<◌, ◌≤◌, ◌+◌, ℕ, zero, suc, Bool, true, false, not, ◌&&◌, ◌||◌, cond, List, [], ◌∷◌, ◌++◌, length, set, take, drop, Option, Some, None, option_map, IfSome, Ok, Err, refl, sym, ap, subst, ◌∙◌, arith}
 use Rattle.std.specs.Prelude.{nat_le, ok_or, unwrap_or}
 use Rattle.std.specs.Option.{is_none}
-use Rattle.std.specs.List.{list_any}
-use Rattle.std.proofs.Math.Bool.{and-false}
 use Rattle.std.proofs.lemmas.Bool.{le-leb, lt-leb}
 use Rattle.std.proofs.lemmas.List.{drop-drop, length-drop, take_more_set}
 use Rattle.farm_history.specs.Lists.{Each}
@@ -19,16 +17,16 @@ use Rattle.front_loop.specs.declared.sessions.Session.{Session}
 use Rattle.front_loop.specs.declared.offering.Gave.{Gave}
 use Rattle.front_loop.specs.declared.offering.Gave.TheVariants as gave
 use Rattle.front_loop.specs.Rules.{Rules, Move, answer_bytes}
-use Rattle.front_loop.specs.Rounds.{Send, FrontRound, has, there}
+use Rattle.front_loop.specs.Rounds.{Send, FrontRound, has}
 use Rattle.front_loop.specs.Conns.{Standing, loses, is_tried, send_fails, made, after, before, is_open, due, closes, Unclosed, MayLack, InHearing, AtReply, AtOffer, told_after}
-use Rattle.front_loop.specs.RoundRules.{SendFits, RoundFits}
+use Rattle.front_loop.specs.RoundRules.{SendFits}
 use Rattle.front_loop.specs.Front.{keeps}
 use Rattle.front_loop.specs.inner.Sessions.{keys, Apart, StandsAt, is_up}
-use Rattle.front_loop.specs.inner.Stands.{World, StarvesNow, DispositionFits, Keeping, Sits, Makes}
+use Rattle.front_loop.specs.inner.Stands.{World, DispositionFits, Keeping, Sits}
 use Rattle.front_loop.specs.inner.Stages.{offering, OwesNone, OffersOne, Idle, Gives_it, Gives, disposition_after, part_or_all, CanOffer, CanLeave}
 use Rattle.front_loop.proofs.Tables.{other, same, has_at, conns_set, each_set, each_at, each_snoc}
 use Rattle.front_loop.proofs.Rests.{at_put, other_put, keys_put}
-use Rattle.front_loop.proofs.Sitting.{clash, or_none, and_both, no_bytes, untried_took, untried_failed, unclosed_is, unclosed_calm, starves_now, sits_as, others}
+use Rattle.front_loop.proofs.Sitting.{clash, and_both, no_bytes, untried_took, untried_failed, unclosed_is, unclosed_calm, starves_now, sits_as, others}
 use Rattle.front_loop.proofs.Heards.{holds_rest}
 use Rattle.front_loop.proofs.Worlds.{told_more, open_by}
 use Rattle.front_loop.proofs.Gots.{keeps_up, keeps_asks}

@@ -1,5 +1,5 @@
 -- A round begins: its event, and what all sessions and all else make of it.
-use Rattle.std.proofs.Common.{◌≡◌, ◌==◌, ◌-◌, ◌^◌, ℕ, true, false, Bool, ◌&&◌, IfSome, cond, List, [], ◌∷◌, ◌++◌, length, map, min, set, Option, Some, None, option_map, refl, sym, ap, subst, ◌∙◌, append_assoc, inl, inr, ◌⊎◌}
+use Rattle.std.proofs.Common.{◌≡◌, ◌==◌, ◌-◌, ◌^◌, ℕ, true, false, Bool, ◌&&◌, IfSome, cond, List, [], ◌∷◌, ◌++◌, length, map, min, set, Option, Some, None, option_map, refl, sym, ap, subst, ◌∙◌, inl, inr, ◌⊎◌}
 use Rattle.std.specs.Prelude.{◌≢◌, Result, MatchResult}
 use Rattle.farm_base.specs.declared.turns.Worn.{Worn}
 use Rattle.std.proofs.lemmas.Bool.{eqb-true}
@@ -12,7 +12,7 @@ use Rattle.port_events.specs.Boxes.{rest_at, HasRest, rest_in}
 use Rattle.front_loop.specs.declared.dispositions.Disposition.{Disposition}
 use Rattle.front_loop.specs.declared.sessions.Session.{Session}
 use Rattle.front_loop.specs.declared.sessions.SessionTable.{SessionTable}
-use Rattle.front_loop.specs.Rules.{EachSoFar, Rules, Move, Does, wants_of, BeginsWanted}
+use Rattle.front_loop.specs.Rules.{EachSoFar, Rules, Move, wants_of, BeginsWanted}
 use Rattle.front_loop.specs.Rounds.{FrontRound, in_turn, has, connections_after, with_refused, starved_in, there, asked_by}
 use Rattle.front_loop.specs.Conns.{Standing, opens, blank, conn, before, made, after, shut_out, told_after}
 use Rattle.front_loop.specs.RoundRules.{RoundFits}
@@ -20,7 +20,7 @@ use Rattle.front_loop.specs.Front.{does, with_acts, EachFits}
 use Rattle.front_loop.specs.inner.Sessions.{conns, keys, Apart, StandsAt, woken}
 use Rattle.front_loop.specs.inner.Stands.{World, AreTold, EachMayCome, Sits, Waits}
 use Rattle.front_loop.specs.inner.Stages.{begun, Settles, Passes, Holds, Overflows, Starves, HearsOne, HearsWorn, Comes, CanCollect, CutShort, marked, MarksAt, Absent, Marks}
-use Rattle.front_loop.proofs.Tables.{same, other, conns_set, conns_woken, each_set, each_none, each_weaker, each_woken, each_at}
+use Rattle.front_loop.proofs.Tables.{same, other, conns_set, conns_woken, each_set, each_none, each_woken, each_at}
 use Rattle.front_loop.proofs.Rests.{other_put, keys_put}
 use Rattle.front_loop.proofs.Woken.{world_woken}
 use Rattle.front_loop.proofs.Sitting.{clash, open_map, others, sits_quiet, sits_called, sits_ended, sits_lost}

@@ -1,4 +1,4 @@
-use Rattle.std.proofs.Common.{refl, subst, sym, ap, ◌∙◌, inl, inr}
+use Rattle.std.proofs.Common.{refl, subst, ◌∙◌, inl, inr}
 use Rattle.front_loop.specs.inner.Stages.{Admits}
 use Rattle.front_loop.proofs.Opens.{refused_as}
 use Rattle.front_loop.proofs.hearing.open.Goals as goal

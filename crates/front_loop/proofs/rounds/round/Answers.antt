@@ -1,7 +1,5 @@
-use Rattle.std.proofs.Common.{List, ℕ, None, sym, subst}
+use Rattle.std.proofs.Common.{List, ℕ, sym, subst}
 use Rattle.port_events.specs.Told.{Hears}
-use Rattle.port_events.specs.declared.events.PortEvent.{PortEvent}
-use Rattle.front_loop.specs.inner.Stages.{Comes}
 use Rattle.front_loop.proofs.rounds.round.Goals as goal
 
 pub returns-in-None-clause-goes : goal.returns-in-None-clause-goes
