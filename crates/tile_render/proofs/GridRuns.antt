@@ -4,6 +4,7 @@ use Rattle.std.specs.Prelude.{min, nat_le, nat_lt, if◌then◌else◌, unwrap_o
 use Rattle.std.specs.List.{range_with_len}
 use Rattle.std.proofs.Math.Nat.{mul-le-mul_right, min-eq_left, min-eq_right, min-le_right}
 use Rattle.std.proofs.lemmas.Bool.{cases_lt, le-ltb, lt-ltb}
+use Rattle.std.proofs.lemmas.List.{get_or_default}
 use Rattle.std.proofs.lemmas.List.FromFn.{get_or-map-range_with_len, length-map-range_with_len}
 use Rattle.plain_world.specs.declared.world.Point.{Point}
 use Rattle.plain_world.specs.declared.world.Window.{Window}
@@ -15,7 +16,7 @@ use Rattle.plain_image.specs.Runs.{run_changed}
 use Rattle.plain_drawing.specs.declared.style.Symbolizer.TheVariants as paint
 use Rattle.plain_drawing.specs.Grids.{Grid, colour_in, pixel_at, grid_at}
 use Rattle.plain_drawing.specs.Drawing.{raster_over}
-use Rattle.tile_render.specs.inner.GridPlaces.{place_in, column_at, row_at}
+use Rattle.tile_render.specs.inner.GridPlaces.{place_in, column_at, row_at, IsRun, IsColumns}
 use Rattle.tile_render.specs.inner.Regions.{Changed}
 use Rattle.tile_render.proofs.Changing.{changed_skip}
 use Rattle.tile_render.proofs.Runs.{changed_run}
@@ -113,6 +114,17 @@ row_found seen now c there r found same here = sym (found ∙ ap (λ g. row_at g
 -- as many columns as the window has
 pub each_column : (w : Window) (g : Grid) (columns : List ℕ) → columns ≡ map (λ i. column_at g (centre w i 0)) (range_with_len 0 w.cols) → length columns ≡ w.cols
 each_column w g columns are = ap length are ∙ length-map-range_with_len (λ i. column_at g (centre w i 0)) 0 w.cols
+
+-- the column of the grid that was read
+pub column_here : (columns : List ℕ) (i col : ℕ) → i < length columns → col ≡ get_or columns i col → get_or columns i 0 ≡ col
+column_here columns i col low is = get_or_default columns i 0 col low ∙ sym is
+
+-- where the run ends that a column of the window lies in
+pub run_here : (w : Window) (g : Grid) (columns ends : List ℕ) (i end : ℕ) → IsColumns w g columns ends → i < w.cols → end ≡ get_or ends i end → IsRun columns i end
+run_here w g columns ends i end they low is =
+    let long : length columns ≡ w.cols = each_column w g columns they.are in
+    let inner : i < length ends = omega (arith, long, they.long, low) in
+    subst (IsRun columns i) (get_or_default ends i 0 end inner ∙ sym is) (they.runs i (omega (arith, long, low)))
 
 -- a run of a row whose columns lie in one column of the grid
 pub run_held : (w : Window) (g : Grid) (columns : List ℕ) (opacity j from end k r : ℕ) (start now after : Pixels)

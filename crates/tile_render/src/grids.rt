@@ -7,7 +7,7 @@ ghost use Rattle.plain_world.specs.World.{IsWindow, centre};
 ghost use Rattle.plain_shapes.specs.Images.{Pixels};
 ghost use Rattle.plain_shapes.specs.inner.Canvas.{stepped};
 ghost use Rattle.plain_drawing.specs.Drawing.{raster_over};
-ghost use Rattle.tile_render.specs.inner.GridPlaces.{place_in, column_at, row_at};
+ghost use Rattle.tile_render.specs.inner.GridPlaces.{place_in, column_at, row_at, IsRun, IsColumns};
 ghost use Rattle.tile_render.specs.inner.Regions.{Changed};
 
 use farm_base::NoMemory;
@@ -47,9 +47,7 @@ fn grid_columns(alloc: Global, w: Window, grid: &Grid) -> Result<Vec<u32>, NoMem
 fn run_end(places: &[u32], from: u32, count: u32) -> u32
     requires count { length places.now ≡ count }
     requires from { from < count }
-    ensures after { from < result }
-    ensures within { result ≤ count }
-    ensures same { (k : ℕ) → from ≤ k → k < result → get_or places.now k 0 ≡ get_or places.now from 0 }
+    ensures { IsRun places.now from result }
 {
     let place = places[from as usize];
     let mut end = from + 1;
@@ -57,6 +55,41 @@ fn run_end(places: &[u32], from: u32, count: u32) -> u32
         end += 1;
     }
     end
+}
+
+/// For each place the end of the run of equal places that it lies in.
+fn run_ends(alloc: Global, places: &[u32], count: u32) -> Result<Vec<u32>, NoMemory>
+    requires { length places.now ≡ count }
+    ensures long { IfOk result (λ v. length v.items ≡ length places.now) }
+    ensures runs { IfOk result (λ v. (i : ℕ) → i < length places.now → IsRun places.now i (get_or v.items i 0)) }
+{
+    let mut ends = Vec::with_capacity(alloc, places.len())?;
+    let mut end = 0;
+    for i in 0..count {
+        if end <= i {
+            end = run_end(places, i, count);
+        }
+        ends.push(end)?;
+    }
+    Ok(ends)
+}
+
+/// The columns of the grid under those of a window, found once for all rows: for each of the window's its column of the
+/// grid, or the number of these where it has none there, and where the run of those with the same one ends.
+#[derive(Drop)]
+struct GridColumns {
+    columns: Vec<u32>,
+    ends: Vec<u32>,
+}
+
+/// The columns of the grid under those of the window.
+fn columns_under(alloc: Global, w: Window, grid: &Grid) -> Result<GridColumns, NoMemory>
+    requires window { IsWindow w }
+    ensures { IfOk result (λ c. IsColumns w grid.now c.columns.items c.ends.items) }
+{
+    let columns = grid_columns(alloc, w, grid)?;
+    let ends = run_ends(alloc, columns.as_slice(), w.cols)?;
+    Ok(GridColumns { columns, ends })
 }
 
 /// The colour of the grid's pixel in this column and row.
@@ -74,9 +107,16 @@ fn colour_at(grid: &Grid, col: u32, row: u32) -> Colour
 }
 
 /// Paints the grid over the pixels of one row whose centres it holds.
-fn blend_row(w: Window, grid: &Grid, columns: &[u32], opacity: u32, j: u32, image: &mut TiledImage)
+fn blend_row(
+    w: Window,
+    grid: &Grid,
+    under: &GridColumns,
+    opacity: u32,
+    j: u32,
+    image: &mut TiledImage,
+)
     requires window { IsWindow w }
-    requires columns { columns.now ≡ map (λ i. column_at grid.now (centre w i 0)) (range_with_len 0 w.cols) }
+    requires columns { IsColumns w grid.now under.now.columns.items under.now.ends.items }
     requires cols { image.old.cols ≡ w.cols }
     requires rows { image.old.rows ≡ w.rows }
     requires opacity { opacity ≤ 1000 }
@@ -92,8 +132,8 @@ fn blend_row(w: Window, grid: &Grid, columns: &[u32], opacity: u32, j: u32, imag
     }
     let mut i = 0;
     while i < w.cols {
-        let end = run_end(columns, i, w.cols);
-        let col = columns[i as usize];
+        let end = under.ends[i as usize];
+        let col = under.columns[i as usize];
         if col < grid.cols {
             image.blend_run(j, i, end, colour_at(grid, col, row), opacity);
         }
@@ -117,9 +157,9 @@ pub(crate) fn blend_grid(
     ensures cols { image.new.cols ≡ image.old.cols }
     ensures rows { image.new.rows ≡ image.old.rows }
 {
-    let columns = grid_columns(alloc, w, grid)?;
+    let under = columns_under(alloc, w, grid)?;
     for j in 0..w.rows {
-        blend_row(w, grid, columns.as_slice(), opacity, j, image);
+        blend_row(w, grid, &under, opacity, j, image);
     }
     Ok(())
 }
