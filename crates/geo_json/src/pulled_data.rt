@@ -8,7 +8,7 @@ use crate::coordinates::{Units, are_same, units_from};
 use crate::faults::DataFault;
 use crate::pulled_layers::PulledLayers;
 use data_versions::Layer;
-use json::Reader;
+use json::{Reader, Scratch};
 use pulled_json::{PullMember, pull_list, pull_text, str_from};
 use std::alloc::Global;
 
@@ -72,7 +72,12 @@ fn layers_of(units: Units, parts: DataParts) -> Option<Vec<Layer>>
 }
 
 /// The layers that the bytes say in these units; or else whether they tell other units.
-fn layers_in(alloc: Global, units: Units, bytes: &[u8]) -> Result<Vec<Layer>, bool>
+fn layers_in(
+    alloc: Global,
+    units: Units,
+    scratch: &mut Scratch,
+    bytes: &[u8],
+) -> Result<Vec<Layer>, bool>
     ensures { IfOk result (λ v. (spec.dataset_in bytes.now ≡ Ok v.items) × AreRead v.items) }
 {
     let mut parts = DataParts {
@@ -80,7 +85,7 @@ fn layers_in(alloc: Global, units: Units, bytes: &[u8]) -> Result<Vec<Layer>, bo
         other: false,
         layers: None,
     };
-    let Some(_) = pull_text(alloc, &PulledMembers { units }, &mut parts, bytes) else {
+    let Some(_) = pull_text(alloc, &PulledMembers { units }, &mut parts, scratch, bytes) else {
         return Err(parts.other);
     };
     match layers_of(units, parts) {
@@ -94,9 +99,10 @@ fn layers_in(alloc: Global, units: Units, bytes: &[u8]) -> Result<Vec<Layer>, bo
 pub(crate) fn pulled_layers(alloc: Global, bytes: &[u8]) -> Option<Vec<Layer>>
     ensures { IfSome result (λ v. (spec.dataset_in bytes.now ≡ Ok v.items) × AreRead v.items) }
 {
-    match layers_in(alloc, Units::Centimetres, bytes) {
+    let mut scratch = Scratch::new(alloc);
+    match layers_in(alloc, Units::Centimetres, &mut scratch, bytes) {
         Ok(layers) => Some(layers),
-        Err(true) => match layers_in(alloc, Units::World, bytes) {
+        Err(true) => match layers_in(alloc, Units::World, &mut scratch, bytes) {
             Ok(layers) => Some(layers),
             Err(_) => None,
         },

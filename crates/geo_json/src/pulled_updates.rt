@@ -7,7 +7,7 @@ ghost use Rattle.geo_json.specs.inner.Gathered.{HasUpdateParts, AreReadChanges};
 use crate::coordinates::{Units, are_same, units_from};
 use crate::pulled_changes::PulledChanges;
 use data_versions::Change;
-use json::Reader;
+use json::{Reader, Scratch};
 use pulled_json::{PullMember, pull_list, pull_text};
 use std::alloc::Global;
 
@@ -71,7 +71,12 @@ fn changes_of(units: Units, parts: UpdateParts) -> Option<Vec<Change>>
 }
 
 /// The changes that the bytes say in these units; or else whether they tell other units.
-fn changes_in(alloc: Global, units: Units, bytes: &[u8]) -> Result<Vec<Change>, bool>
+fn changes_in(
+    alloc: Global,
+    units: Units,
+    scratch: &mut Scratch,
+    bytes: &[u8],
+) -> Result<Vec<Change>, bool>
     ensures { IfOk result (λ v. (spec.update_in bytes.now ≡ Ok v.items) × AreReadChanges v.items) }
 {
     let mut parts = UpdateParts {
@@ -79,7 +84,7 @@ fn changes_in(alloc: Global, units: Units, bytes: &[u8]) -> Result<Vec<Change>, 
         other: false,
         changes: None,
     };
-    let Some(_) = pull_text(alloc, &PulledMembers { units }, &mut parts, bytes) else {
+    let Some(_) = pull_text(alloc, &PulledMembers { units }, &mut parts, scratch, bytes) else {
         return Err(parts.other);
     };
     match changes_of(units, parts) {
@@ -93,9 +98,10 @@ fn changes_in(alloc: Global, units: Units, bytes: &[u8]) -> Result<Vec<Change>, 
 pub(crate) fn pulled_changes(alloc: Global, bytes: &[u8]) -> Option<Vec<Change>>
     ensures { IfSome result (λ v. (spec.update_in bytes.now ≡ Ok v.items) × AreReadChanges v.items) }
 {
-    match changes_in(alloc, Units::Centimetres, bytes) {
+    let mut scratch = Scratch::new(alloc);
+    match changes_in(alloc, Units::Centimetres, &mut scratch, bytes) {
         Ok(changes) => Some(changes),
-        Err(true) => match changes_in(alloc, Units::World, bytes) {
+        Err(true) => match changes_in(alloc, Units::World, &mut scratch, bytes) {
             Ok(changes) => Some(changes),
             Err(_) => None,
         },

@@ -11,11 +11,13 @@ use std::str;
 /// How deep the lists and objects of a text may nest, as `serde_json` reads it.
 const MAX_DEPTH: usize = 127;
 
-/// Pulls a text that is an object.
+/// Pulls a text that is an object. The scratch is kept for a text that is pulled once more, so that no block of
+/// its size is let go and taken anew.
 pub fn pull_text<P: PullMember>(
     alloc: Global,
     pulls: &P,
     gathered: &mut P::Gathered,
+    scratch: &mut Scratch,
     bytes: &[u8],
 ) -> Option<()>
     requires { P.has pulls.now gathered.old no_members }
@@ -25,8 +27,7 @@ pub fn pull_text<P: PullMember>(
     let Ok(text) = str::from_utf8(bytes) else {
         return None;
     };
-    let mut scratch = Scratch::new(alloc);
-    let Ok(mut reader) = Reader::new(text, &mut scratch) else {
+    let Ok(mut reader) = Reader::new(text, scratch) else {
         return None;
     };
     pull_object(alloc, pulls, gathered, &mut reader, MAX_DEPTH)?;
