@@ -297,6 +297,10 @@ class Source:
             if made is not None:
                 yield made
 
+    def close(self) -> None:
+        """The library lets go of the file; what was left out of it is still known."""
+        self.dataset = None
+
     def left_of(self, layer: Layer) -> Left:
         """What is left out of a layer. An extract's relations are cut at its edge, so nothing of it is refused for that."""
         if layer.name not in self.left:

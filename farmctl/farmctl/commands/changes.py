@@ -17,13 +17,17 @@ import os
 import shutil
 import subprocess
 import tempfile
+from array import array
+from bisect import bisect_left
 from collections.abc import Iterator
 from dataclasses import dataclass, field
+from itertools import islice
 from pathlib import Path
+from typing import IO
 
 from farmctl.commands.data import AROUND, read, tell_left
 from farmctl.commands.status import size
-from farmctl.datafile import MOST_FEATURES, Layers, lines_of, quoted
+from farmctl.datafile import MOST_BYTES, joined_lines, lines_of, quoted
 from farmctl.errors import FarmError
 from farmctl.farm import Farm
 from farmctl.metatiles import SIDE
@@ -39,6 +43,8 @@ EXAMPLE = """
 NOTHING = 3
 ZOOM = 14  # at which touched metatiles are counted
 MOST_COUNTED = 1 << 16  # metatiles of one feature; one that reaches more is counted as so many
+
+Square = tuple[int, int]  # a metatile of the zoom
 
 
 def add(parser: argparse.ArgumentParser) -> None:
@@ -63,44 +69,70 @@ def applied(old: str, change: str, folder: Path) -> str:
 
 @dataclass
 class Change:
-    """What becomes of one layer."""
+    """What becomes of one layer. The features that are put stand in a file, one on each line."""
 
     layer: str
+    puts: Path
+    count: int = 0  # of those that are put
     remove: list[int] = field(default_factory=list)
-    put: list[bytes] = field(default_factory=list)
-    boxes: list[Box] = field(default_factory=list)  # of the features as they were and as they are
+    squares: set[Square] = field(default_factory=set)  # touched metatiles
 
-    def text(self) -> bytes:
-        return b'{"layer":%s,"remove":%s,"put":[%s]}' % (
-            quoted(self.layer),
-            json.dumps(self.remove, separators=(",", ":")).encode(),
-            b"\n" + b",\n".join(self.put) + b"\n" if self.put else b"",
-        )
+    def touch(self, line: bytes) -> None:
+        self.squares.update(islice(squares(box_of(json.loads(line)["geometry"])), MOST_COUNTED))
+
+    def write(self, out: IO[bytes]) -> None:
+        remove = json.dumps(self.remove, separators=(",", ":")).encode()
+        out.write(b'{"layer":%s,"remove":%s,"put":[' % (quoted(self.layer), remove))
+        if self.count:
+            out.write(b"\n")
+            joined_lines(self.puts, out)
+            out.write(b"\n")
+        out.write(b"]}")
 
 
-def change_of(old: Layers, new: Layers, name: str) -> Change:
-    """What leads from a layer as it was to it as it is. Of the old one a number for each feature is kept, and no more."""
-    before = {number: hash(line) for number, line in lines_of(old.layers[name].path)}
-    made, touched = Change(name), set()
-    for number, line in lines_of(new.layers[name].path):
-        known = before.pop(number, None)
-        if known != hash(line):
-            made.put.append(line)
-            made.boxes.append(box_in(line))
-            touched.add(number)
-    made.remove = sorted(before)
-    touched.update(before)
-    made.boxes += [box_in(line) for number, line in lines_of(old.layers[name].path) if number in touched]
-    if len(made.put) > MOST_FEATURES:
-        raise FarmError(f"{name}: more than {MOST_FEATURES:,} changes: make the data anew (farmctl data)")
+class Known:
+    """The features of a layer as it was. Of each only its id is kept and a number that tells its line from others: so a
+    million take 17 MB.
+    """
+
+    def __init__(self, path: Path) -> None:
+        self.ids = array("Q", sorted(number for number, _ in lines_of(path)))
+        self.marks = array("q", bytes(8 * len(self.ids)))
+        self.is_met = bytearray(len(self.ids))
+        for number, line in lines_of(path):
+            self.marks[bisect_left(self.ids, number)] = hash(line)
+
+    def meet(self, number: int) -> int | None:
+        """The mark of the feature with this id, which has then been met."""
+        place = bisect_left(self.ids, number)
+        if place == len(self.ids) or self.ids[place] != number:
+            return None
+        self.is_met[place] = 1
+        return self.marks[place]
+
+    def unmet(self) -> list[int]:
+        return [number for number, is_met in zip(self.ids, self.is_met, strict=True) if not is_met]
+
+
+def change_of(old: Path, new: Path, made: Change) -> Change:
+    """What leads from a layer as it was to it as it is."""
+    known, touched = Known(old), set()
+    with made.puts.open("wb") as puts:
+        for number, line in lines_of(new):
+            if known.meet(number) != hash(line):
+                puts.write(line + b"\n")
+                made.touch(line)
+                made.count += 1
+                touched.add(number)
+    made.remove = known.unmet()
+    touched.update(made.remove)
+    for number, line in lines_of(old):
+        if number in touched:
+            made.touch(line)
     return made
 
 
-def box_in(line: bytes) -> Box:
-    return box_of(json.loads(line)["geometry"])
-
-
-def squares(box: Box) -> Iterator[tuple[int, int]]:
+def squares(box: Box) -> Iterator[Square]:
     """The metatiles of the zoom that a box reaches."""
     side = SIDE * AROUND / (1 << ZOOM)
     west, east = (int((x - WEST) // side) for x in (box[0], box[2]))
@@ -108,24 +140,23 @@ def squares(box: Box) -> Iterator[tuple[int, int]]:
     return ((x, y) for x in range(west, east + 1) for y in range(north, south + 1))
 
 
-def touched(boxes: list[Box]) -> int:
-    found: set[tuple[int, int]] = set()
-    for box in boxes:
-        for count, square in enumerate(squares(box)):
-            if count == MOST_COUNTED:
-                break
-            found.add(square)
-    return len(found)
-
-
 def write(changes: list[Change], out: Path) -> int:
+    """The update, written beside and renamed; its bytes."""
     beside = out.with_name(f".{out.name}.{os.getpid()}.new")
     try:
-        beside.write_bytes(b'{"units":"cm","changes":[\n' + b",\n".join(change.text() for change in changes) + b"\n]}\n")
+        with beside.open("wb") as target:
+            target.write(b'{"units":"cm","changes":[\n')
+            for place, change in enumerate(changes):
+                target.write(b",\n" if place else b"")
+                change.write(target)
+            target.write(b"\n]}\n")
+            length = target.tell()
+        if length > MOST_BYTES:
+            raise FarmError(f"{length:,} bytes, and a farm reads at most {MOST_BYTES:,}: make the data anew (farmctl data)")
         os.replace(beside, out)
     finally:
         beside.unlink(missing_ok=True)
-    return out.stat().st_size
+    return length
 
 
 def room(farm: Farm) -> str:
@@ -157,22 +188,25 @@ def run(args: argparse.Namespace) -> int:
         for source in sources:
             source.path = args.new  # which is what the user knows of
         tell_left(new, sources)
-        found = [change_of(old, new, name) for name in new.layers]
-        changes = [change for change in found if change.put or change.remove]
+        found = [
+            change_of(old.layers[name].path, layer.path, Change(name, folder / f"puts-{number}"))
+            for number, (name, layer) in enumerate(new.layers.items())
+        ]
+        changes = [change for change in found if change.count or change.remove]
+        length = write(changes, args.output) if changes else 0
         if args.keep:
             shutil.move(newer, args.keep)
     if not changes:
         print("nothing has changed")
         return NOTHING
-    tell(changes, args.output)
+    tell(changes, length, args.output)
     if known:
         print(known)
     return 0
 
 
-def tell(changes: list[Change], out: Path) -> None:
-    length = write(changes, out)
+def tell(changes: list[Change], length: int, out: Path) -> None:
     for change in changes:
-        print(f"{change.layer}: removes {len(change.remove):,} and puts {len(change.put):,} features")
-    boxes = [box for change in changes for box in change.boxes]
-    print(f"{out}: {size(length)}; it touches {touched(boxes):,} metatiles of zoom {ZOOM} where they are drawn")
+        print(f"{change.layer}: removes {len(change.remove):,} and puts {change.count:,} features")
+    touched = len(set().union(*(change.squares for change in changes)))
+    print(f"{out}: {size(length)}; it touches {touched:,} metatiles of zoom {ZOOM} where they are drawn")

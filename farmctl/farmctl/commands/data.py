@@ -50,6 +50,7 @@ def read(words: list[str], args: argparse.Namespace, folder: Path) -> tuple[Laye
     try:
         for source in sources:
             layers.add(source.items())
+            source.close()
     finally:
         layers.close()
     if layers.count == 0:
