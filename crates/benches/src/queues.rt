@@ -3,7 +3,7 @@ use crate::tables::{Calls, tell_time};
 use plain_world::Meta;
 use render_queues::{Conn, Key, Limits, Outcome, Queue, Queues, Waiter};
 use std::alloc::Global;
-use std::io;
+use std::process::Abort;
 use std::rt::Clock;
 use std::time::{Duration, Instant};
 
@@ -97,17 +97,20 @@ fn leave_all(queues: &mut Queues) -> u64 {
 }
 
 /// Fills the queues and empties them by leaving, so often.
-fn leave_lines<R: Clock + Print>(rt: &R, work: Calls, queues: &mut Queues) -> io::Result<()> {
+fn leave_lines<R: Clock + Print + Abort>(rt: &R, work: Calls, queues: &mut Queues) {
     let mut asks = 0u64;
     let mut took = Duration::from_secs(0);
     for _ in 0..work.leaves {
         fill(queues, MOST_ASKS);
-        let start = Instant::now(rt)?;
+        let start = Instant::now(rt).expect(rt, "a clock");
         asks = asks.saturating_add(leave_all(queues));
-        took = took.saturating_add(start.elapsed(rt)?);
+        took = took.saturating_add(start.elapsed(rt).expect(rt, "a clock"));
     }
-    println!(rt; "64 connections left {} times: {asks} asks", work.leaves)?;
-    tell_time(rt, work, took, work.leaves.saturating_mul(64))
+    println!(rt; "64 connections left {} times: {asks} asks", work.leaves).expect(
+        rt,
+        "standard output",
+    );
+    tell_time(rt, work, took, work.leaves.saturating_mul(64));
 }
 
 /// Takes and ends what waits in the dirty queue: how many metatiles.
@@ -134,47 +137,38 @@ fn fill_dirty(queues: &mut Queues) -> u32 {
 }
 
 /// Rounds over queues in which all but two asks are open.
-fn round_lines<R: Clock + Print>(rt: &R, work: Calls, queues: &mut Queues) -> io::Result<()> {
+fn round_lines<R: Clock + Print + Abort>(rt: &R, work: Calls, queues: &mut Queues) {
     fill(queues, MOST_ASKS - 2);
     let open = queues.asks().saturating_add(2);
-    let start = Instant::now(rt)?;
+    let start = Instant::now(rt).expect(rt, "a clock");
     let replies = rounds(queues, work.rounds);
-    let took = start.elapsed(rt)?;
+    let took = start.elapsed(rt).expect(rt, "a clock");
     println!(rt;
         "{open} asks open: {} rounds, {replies} replies",
         work.rounds
-    )?;
-    tell_time(rt, work, took, work.rounds)
+    )
+    .expect(rt, "standard output");
+    tell_time(rt, work, took, work.rounds);
 }
 
 /// A full dirty queue.
-fn dirty_lines<R: Clock + Print>(rt: &R, work: Calls, queues: &mut Queues) -> io::Result<()> {
+fn dirty_lines<R: Clock + Print + Abort>(rt: &R, work: Calls, queues: &mut Queues) {
     let placed = fill_dirty(queues);
-    let start = Instant::now(rt)?;
+    let start = Instant::now(rt).expect(rt, "a clock");
     let taken = empty_dirty(queues);
-    let took = start.elapsed(rt)?;
-    println!(rt; "{placed} metatiles in the dirty queue: {taken} taken")?;
-    tell_time(rt, work, took, taken)
+    let took = start.elapsed(rt).expect(rt, "a clock");
+    println!(rt; "{placed} metatiles in the dirty queue: {taken} taken").expect(
+        rt,
+        "standard output",
+    );
+    tell_time(rt, work, took, taken);
 }
 
 /// Rounds, connections that leave, and a full dirty queue, each with its line.
-fn lines<R: Clock + Print>(rt: &R, work: Calls, queues: &mut Queues) -> io::Result<()> {
-    round_lines(rt, work, queues)?;
-    leave_lines(rt, work, queues)?;
-    dirty_lines(rt, work, queues)
-}
-
-/// The lines of the queues: false where memory was wanting.
-pub(crate) fn queue_lines<R: Clock + Print>(
-    rt: &R,
-    alloc: Global,
-    work: Calls,
-) -> io::Result<bool> {
-    let Ok(mut queues) = Queues::with_limits(alloc, LIMITS, 16) else {
-        return Ok(false);
-    };
-    let told = lines(rt, work, &mut queues);
+pub(crate) fn queue_lines<R: Clock + Print + Abort>(rt: &R, alloc: Global, work: Calls) {
+    let mut queues = Queues::with_limits(alloc, LIMITS, 16).expect(rt, "memory");
+    round_lines(rt, work, &mut queues);
+    leave_lines(rt, work, &mut queues);
+    dirty_lines(rt, work, &mut queues);
     drop(queues);
-    told?;
-    Ok(true)
 }
