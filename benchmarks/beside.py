@@ -278,6 +278,9 @@ CASES = {
     "nothing": (lambda: {"all": []}, one(fill("#336699")), [14], HERE),
 }
 
+# The cases whose files are those of another one, drawn at another place.
+SAME = {"layers64_far": "layers64"}
+
 # ---- files
 
 
@@ -551,32 +554,62 @@ def slowest(ratios):
     return "Slowest against Mapnik: %s at zoom %d, where Mapnik takes %.2f times as long" % (name, z, times)
 
 
+def make(name, folder, peer):
+    """The files of a case in the folder, for both; `made` is the last of them."""
+    shapes, style, _, _ = CASES[name]
+    features = shapes()
+    style_said, data_said = ours(features, style)
+    for file, said in (("style", style_said), ("data", data_said)):
+        with open("%s/%s.json" % (folder, file), "w") as out:
+            json.dump(said, out)
+    if "base" in style:
+        put_base(folder)
+    if peer:
+        with open(folder + "/map.xml", "w") as out:
+            out.write(of_mapnik(features, style, folder))
+    with open(folder + "/made", "w") as out:
+        out.write(name)
+
+
+def folder_of(name, folder, peer):
+    """The folder that has the files of the case: one of its own, where they were made before, below the folder that KEEP names."""
+    kept = os.environ.get("KEEP")
+    here = os.path.join(os.path.abspath(kept), SAME.get(name, name)) if kept else folder
+    if here != folder:
+        os.makedirs(here, exist_ok=True)
+        shutil.copy(folder + "/unwritten.so", here)
+    if here == folder or not os.path.exists(here + "/made"):
+        make(name, here, peer)
+    return here
+
+
+ROW = "%-12s %3s %9s %8s %8s %12s %12s %9s %5s %7s %5s"
+
+
+def row_of(name, z, got, peak, steal, same):
+    number = lambda it: "-" if it is None else "%.4f" % it
+    return ROW % (name, z, number(got["mapnik"]), number(got["raw"]), number(got["ours"]), ratio(got["mapnik"], got["ours"]), ratio(got["ours"], got["raw"]), peak, "%.1f" % os.getloadavg()[0], "%.1f" % steal, {None: "-", True: "yes", False: "NO"}[same])
+
+
 def main():
     program, folder, mapnik, *names = sys.argv[1:]
     if names == ["-l"]:
         print(*CASES)
         return
-    row = "%-12s %3s %9s %8s %8s %14s %10s %9s %5s %7s %5s"
-    print(row % ("case", "z", "Mapnik s", "raw s", "ours s", "Mapnik / ours", "ours / raw", "peak KiB", "load", "steal %", "alike"))
+    if names[:1] == ["ready"]:
+        for name in names[1:] or CASES:
+            folder_of(name, folder, beside(mapnik, CASES[name][1]))
+        return
+    print("peer: Mapnik's drawing alone; limit: the writing of a container of one colour, in C")
+    print(ROW % ("case", "z", "peer s", "limit s", "ours s", "peer / ours", "ours / limit", "peak KiB", "load", "steal %", "alike"))
     ratios = []
     for name in names or CASES:
-        shapes, style, zooms, point = CASES[name]
+        _, style, zooms, point = CASES[name]
         peer = beside(mapnik, style)
-        features = shapes()
-        style_said, data_said = ours(features, style)
-        for file, said in (("style", style_said), ("data", data_said)):
-            with open("%s/%s.json" % (folder, file), "w") as out:
-                json.dump(said, out)
-        if "base" in style:
-            put_base(folder)
-        if peer:
-            with open(folder + "/map.xml", "w") as out:
-                out.write(of_mapnik(features, style, folder))
-        del features, data_said
+        here = folder_of(name, folder, peer)
         for z in zooms:
-            got, peak, steal, same = measure(program, folder + "/raw", folder, peer, z, point)
-            number = lambda it: "-" if it is None else "%.4f" % it
-            print(row % (name, z, number(got["mapnik"]), number(got["raw"]), number(got["ours"]), ratio(got["mapnik"], got["ours"]), ratio(got["ours"], got["raw"]), peak, "%.1f" % os.getloadavg()[0], "%.1f" % steal, {None: "-", True: "yes", False: "NO"}[same]), flush=True)
+            got, peak, steal, same = measure(program, folder + "/raw", here, peer, z, point)
+            print(row_of(name, z, got, peak, steal, same), flush=True)
             if got["mapnik"] is not None and got["ours"] and same:
                 ratios.append((got["mapnik"] / got["ours"], name, z))
     print(slowest(ratios))

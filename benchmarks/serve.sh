@@ -4,6 +4,7 @@
 #   benchmarks/serve.sh [quick]             (with `quick` a tenth of everything)
 #   benchmarks/serve.sh waits [FOLDER..]    (what drawings cost others, below each folder: /dev/shm and /var/tmp; some 4 minutes)
 #   benchmarks/serve.sh workers             (how the workers scale where nothing is written; a minute)
+#   benchmarks/serve.sh rates               (clean tiles over HTTP beside nginx, in turn; half a minute)
 #
 # starts `tilefarm serve` in a folder of its own, with sixteen maps over 10,000 features that all lie in one metatile of
 # zoom 14, and measures: clean metatiles answered Done on one connection of renderd's protocol; clean tiles of 256
@@ -17,6 +18,9 @@
 # features, and what 1 and 4 who look at a clean tile wait beside them. PEER, as "tcp:127.0.0.1:80 /a/page", is a page
 # of another server that is looked at in the same way, as a tile of mod_tile's while its renderd draws.
 #
+# With `rates` it measures only clean tiles over HTTP, for 1, 4 and 16 clients, three times in turn with the peer and limit:
+# nginx with one process, which sends the same bytes from a file by sendfile, where it is installed.
+#
 # With `workers` it measures only what 1, 2 and 4 workers (or as many as WORKERS names) draw in ten rounds, with tiles of
 # 32 and of 256 pixels over 200 and over all features; each write of a container is left out (unwritten.c).
 # The client is benchmarks/serve_client.c, compiled by cc. With TILEFARM another program is measured.
@@ -26,6 +30,7 @@ program="${TILEFARM:-$top/tilefarm}"
 part=1
 only=
 preloaded=
+rates=
 case "${1:-}" in
     quick) part=10 ;;
     waits)
@@ -36,13 +41,15 @@ case "${1:-}" in
         ;;
     below) only="$2" ;;
     workers) preloaded=unwritten.so ;;
+    rates) rates=1 ;;
 esac
 if [ -z "${TMPDIR:-}" ] && [ -w /dev/shm ]; then export TMPDIR=/dev/shm; fi
 folder="$(mktemp -d)"
 farm=
 idle=
+nginx=
 ended() {
-    for number in $farm $idle; do kill "$number" 2>/dev/null || true; done
+    for number in $farm $idle $nginx; do kill "$number" 2>/dev/null || true; done
     rm -rf "$folder"
 }
 trap ended EXIT
@@ -162,6 +169,36 @@ rounds() {
     done | awk '{ n += $1; s += $2; r = $1 / $2; if (NR == 1 || r < low) low = r; if (r > high) high = r }
         END { printf "%.0f (%.0f to %.0f)", n / s, low, high }'
 }
+# Starts nginx at $pages with a file of the tile's own bytes, which it sends by sendfile, each over a connection of its own.
+beside_nginx() {
+    port="$(python3 -c 'import socket; s = socket.socket(); s.bind(("127.0.0.1", 0)); print(s.getsockname()[1])')"
+    pages="tcp:127.0.0.1:$port"
+    mkdir -p "$folder/pages/default/14/8192" "$folder/nginx"
+    python3 - "${tiles#tcp:}" >"$folder/pages/default/14/8192/8192.ppm" <<'PYTHON'
+import sys, urllib.request
+sys.stdout.buffer.write(urllib.request.urlopen("http://%s/default/14/8192/8192.ppm" % sys.argv[1]).read())
+PYTHON
+    cat >"$folder/nginx.conf" <<END
+pid $folder/nginx/pid;
+error_log $folder/nginx/log;
+worker_processes 1;
+daemon off;
+events { worker_connections 1024; }
+http {
+    access_log off;
+    sendfile on;
+    keepalive_timeout 0;
+    open_file_cache max=16;
+    client_body_temp_path $folder/nginx/body; proxy_temp_path $folder/nginx/proxy; fastcgi_temp_path $folder/nginx/fastcgi;
+    uwsgi_temp_path $folder/nginx/uwsgi; scgi_temp_path $folder/nginx/scgi;
+    server { listen 127.0.0.1:$port; root $folder/pages; }
+}
+END
+    chmod 755 "$folder"
+    nginx -p "$folder" -c "$folder/nginx.conf" 2>/dev/null &
+    nginx=$!
+    for _ in $(seq 100); do (exec 3<>"/dev/tcp/127.0.0.1/$port") 2>/dev/null && break; sleep 0.1; done
+}
 if [ -n "$only" ]; then
     part=2
     echo "tiles below $only, $(df --output=fstype "$only" | tail -n 1)"
@@ -198,6 +235,23 @@ fi
 
 start 4 10000 256
 client done "$renderd" 1 1 $tile >/dev/null
+if [ -n "$rates" ]; then
+    PATH="$PATH:/usr/sbin" # where Debian has servers, which the path of others than root lacks
+    if command -v nginx >/dev/null; then beside_nginx; else echo "serve.sh: no nginx, so the farm has no peer" >&2; fi
+    for round in 1 2 3; do
+        for threads in 1 4 16; do
+            for server in "$tiles farm" ${nginx:+"$pages nginx"}; do
+                echo "$threads ${server#* } $(client tiles "${server% *}" $((16000 / part)) "$threads" $tile | rate)"
+            done
+        done
+    done | awk '{ if (!(($1, $2) in most) || $3 > most[$1, $2]) most[$1, $2] = $3 }
+        END { for (n = 1; n <= 16; n *= 4) if ((n, "nginx") in most)
+                printf "%2d clients: the farm %d, nginx %d a second, %.2f\n", n, most[n, "farm"], most[n, "nginx"], most[n, "farm"] / most[n, "nginx"]
+            else printf "%2d clients: the farm %d a second\n", n, most[n, "farm"] }'
+    stop
+    echo "load $(cut -d' ' -f1 /proc/loadavg)"
+    exit
+fi
 before="$(memory)"
 told() { client done "$renderd" "$1" "$2" $tile | rate; }
 row "clean metatiles answered Done, 256 at a time" "$(told $((400000 / part)) 256)" "a second"
