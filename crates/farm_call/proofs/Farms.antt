@@ -1,6 +1,6 @@
 -- From what was done of a farm that has served to what is promised of it.
 use Rattle.std.proofs.Common.{◌≡◌, ℕ, ◌⊎◌, inl, inr, ◌≤◌, ◌^◌, Bool, true, false, not, ◌||◌, if◌then◌else◌, List, [], ◌∷◌, ◌++◌, length, map, reverse, refl, sym, ap, ap₂, subst, ◌∙◌}
-use Rattle.std.specs.Prelude.{Option, Some, None, Result, Ok, Err, IfSome, option_map, is_none}
+use Rattle.std.specs.Prelude.{Option, Some, None, Result, Ok, Err, IfSome, option_map, is_some, is_none}
 use Rattle.std.specs.List.{list_any}
 use Rattle.std.proofs.lemmas.Bool.{or_cases, not-true}
 use Rattle.farm_base.specs.Outside.{Outside}
@@ -188,10 +188,14 @@ module _ {D : Type 0} (state : D → Outside StoreTold) (was : CallBefore D) (is
   untold : false ≡ true → StoreTells state was is closed.0
   untold never = cc
 
-  pub headline : Promise closed.0.plan (StoreTells state was is closed.0) whole
-  headline =
-      keeps_promise closed.0.plan (StoreTells state was is closed.0) false whole (kept.after.each false (may_left false untold)).valid (legal false untold)
-      (λ tells. legal true (λ is. tells))
+  promised : (tells : Type 0) → (tells → StoreTells state was is closed.0) → Promise closed.0.plan tells whole
+  promised tells may = keeps_promise closed.0.plan tells false whole (kept.after.each false (may_left false untold)).valid (legal false untold) (λ t. legal true (λ is. may t))
+
+  pub headline : Promise closed.0.plan ((closed.0.saved ≡ None) × (is_some (state was.store).told ≡ true)) whole
+  headline = promised _ (λ t. subst (Tells (state was.store) closed.0.plan) (sym t.0) t.1)
+
+  pub resumed : Promise closed.0.plan (StoreTells state was is closed.0) whole
+  resumed = promised _ (λ tells. tells)
 
   pub sent_now : StoreTells state was is closed.0 → has_plain_update whole ≡ false → EachMoment (IsSentNow closed.0.plan) whole
   sent_now tells renewed =
@@ -242,6 +246,7 @@ module _ {D : Type 0} (state : D → Outside StoreTold) (was : CallBefore D) (is
   saves_as true (Ok done) (Ok u) e may = (
     may.went.saving,
     saved_now may.went.saving may.went.saved,
+    may.went.reads,
     at_left (λ at. HoldsAt at (saved_bytes may.went.saving)) (holds_put (state served.last.store) (state closed.0.store) (saved_bytes may.went.saving) may.went.puts),
   )
   saves_as true (Ok done) (Err stop.StoreFailed) e may = record {

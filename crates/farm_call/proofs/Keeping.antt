@@ -35,7 +35,7 @@ use Rattle.farm_call.specs.inner.Works.{Does, world_before, world_after}
 use Rattle.farm_call.proofs.Asked.{asks_one}
 use Rattle.farm_call.proofs.Followed as follow
 use Rattle.farm_call.proofs.Followed.{Followed, followed}
-use Rattle.farm_call.proofs.Farms.{headline, sent_now, served_well}
+use Rattle.farm_call.proofs.Farms.{headline, resumed, sent_now, served_well}
 use Rattle.farm_call.proofs.Whys.{Why, TurnsGone, by_store}
 use Rattle.farm_call.proofs.Scripting.{scripts_stops, scripts_noticed}
 use Rattle.farm_call.proofs.Loading.{loads_stops, loads_noticed}
@@ -70,7 +70,7 @@ pub record Told {A : Type 0} (o : Option A) (P : A → Type 0) : Type 0 where
   pub is_told : o ≡ Some it
   pub so : P it
 
-told : {A : Type 0} (o : Option A) (P : A → Type 0) → o ≢ None → IfSome o P → Told o P
+pub told : {A : Type 0} (o : Option A) (P : A → Type 0) → o ≢ None → IfSome o P → Told o P
 told None P not h = absurd (not refl)
 told (Some a) P not h = record { it = a; is_told = refl; so = h }
 
@@ -231,6 +231,7 @@ module _ {D : Type 0} (state : D → Outside StoreTold) (was : CallBefore D) (is
         let h : HasServed state x was.store (farm, turns) w w' end = subst (λ (l : Left D). inner.ServesTo state x was.store w w' end l) left (subst (λ (d : D). Serves state x d w w' end) (same_store did.0 did.1) did.2) in
         record {
           headline = headline state was is x (farm, turns) left end h;
+          resumed = resumed state was is x (farm, turns) left end h;
           sent_now = sent_now state was is x (farm, turns) left end h;
           inputs = x;
           asked = asked;

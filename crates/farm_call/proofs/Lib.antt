@@ -13,3 +13,6 @@ mod Beginning
 mod Found
 pub mod Kept
 mod Saving
+mod Readable
+pub mod GoingOn
+mod Restarting

@@ -27,7 +27,7 @@ moment_at P [] e g all = all.0
 moment_at P (x ∷ later) e g all = moment_at P later e g all.1
 
 -- entries in their order, before and after one of them, as a history
-split_back : (before after : List (ℕ × Entry)) (n : ℕ) (e : Entry) (first : List Entry)
+pub split_back : (before after : List (ℕ × Entry)) (n : ℕ) (e : Entry) (first : List Entry)
     → plain (reverse (before ++ (n, e) ∷ after)) ++ first ≡ plain (reverse after) ++ e ∷ (plain (reverse before) ++ first)
 split_back before after n e first =
     ap (λ (l : List (ℕ × Entry)). plain l ++ first) (

@@ -10,6 +10,7 @@ use Rattle.farm_history.specs.Entries.{Entry}
 use Rattle.farm_history.specs.Replays.{Saving, IsSaved}
 use Rattle.farm_plan.specs.Drawings.{plan_of}
 use Rattle.farm_saved.specs.Writing.{saved_bytes}
+use Rattle.farm_saved.specs.Reading.{saved_in}
 use Rattle.farm_refinement.specs.Seen.{FarmSeen}
 use Rattle.farm_refinement.specs.Stands.{StandsFor}
 use Rattle.farm_shared.specs.Shared.{IsAfter, lasting_of, past}
@@ -22,12 +23,13 @@ module _ {D : Type 0} (state : D → Outside StoreTold) (closed : FarmSeen D × 
   pub stands : StandsFor state false closed.0 (past (lasting_of state closed.0) closed.1)
   stands = after.each false (λ e. absurd (cc))
 
-  module _ (saving : Saving) (sound : (told : Bool) (h : List Entry) → StandsFor state told closed.0 h → IsSaved (plan_of closed.0.plan) h saving) (text : List ℕ) (is : text ≡ saved_bytes saving) where
+  module _ (saving : Saving) (sound : (told : Bool) (h : List Entry) → StandsFor state told closed.0 h → IsSaved (plan_of closed.0.plan) h saving) (reads : saved_in (saved_bytes saving) ≡ Ok saving) (text : List ℕ) (is : text ≡ saved_bytes saving) where
     -- the text of what is kept was put, with this answer
     puts_saved : (new : FarmSeen D) (answer : Result (Unit {0}) StoreFault) → StorePuts (state closed.0.store) (state new.store) saved_path text answer → PutsSaved state closed.0 new closed.1 answer
     puts_saved new answer puts = record {
       saving = saving;
       saved = sound false (past (lasting_of state closed.0) closed.1) stands;
+      reads = reads;
       puts = subst (λ (t : List ℕ). StorePuts (state closed.0.store) (state new.store) saved_path t answer) is puts;
     }
 

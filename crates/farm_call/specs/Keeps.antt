@@ -2,8 +2,8 @@
 -- moment. A history of turns is a list of pairs, a seat's number and an entry, in the order of the
 -- turns: seat 0 is the call's own, seats 1 to 3 are those of the renderd front, the tile front and
 -- the control front, and seat w + 4 is that of worker w.
-use Rattle.std.specs.Prelude.{◌≡◌, ◌≢◌, ◌⊎◌, ℕ, ◌≤◌, true, false, not}
-use Rattle.std.specs.Prelude.{List, [], length, Option, None, option_map}
+use Rattle.std.specs.Prelude.{◌≡◌, ◌≢◌, ◌⊎◌, ℕ, ◌≤◌, true, false}
+use Rattle.std.specs.Prelude.{List, [], length, Option, None, is_some, option_map}
 use Rattle.std.specs.Prelude.{Ok, Err, IfSome}
 use Rattle.farm_base.specs.Limits.{most_turns}
 use Rattle.farm_base.specs.Outside.{Outside, Rose, failed_read, with_failed}
@@ -16,8 +16,6 @@ use Rattle.farm_files.specs.Course.{Course, made, refused, reads, Leads}
 use Rattle.farm_history.specs.Entries.{Entry, EachMoment}
 use Rattle.farm_history.specs.Laws.{has_plain_update}
 use Rattle.farm_refinement.specs.Seen.{FarmSeen}
-use Rattle.farm_shared.specs.Seats.{plain}
-use Rattle.turn_cell.specs.Turns.{by}
 use Rattle.farm_laws.specs.Locality.{IsSentNow}
 use Rattle.farm_laws.specs.Promise.{Promise}
 use Rattle.farm_files.specs.Inputs.{ServeInputs}
@@ -147,8 +145,12 @@ module _ {D : Type 0} (state : D → Outside StoreTold) (was : CallBefore D) (is
     -- Whatever clients, workers, updates and expiries did, in any order, every tile sent as clean is
     -- the plain drawing of its style over the data of one version, taken after the last expiry that
     -- touches it; no metatile is drawn twice at once; an expiry during a drawing leaves the tile
-    -- dirty; and every Done names a tile that was stored after the request or is clean at it
-    pub headline : Promise farm.plan (StoreTells state was is farm) (whole_history state farm turns)
+    -- dirty; and every Done names a tile that was stored after the request or is clean at it. What is
+    -- said of bytes needs a store that tells what it holds, and a farm that began with nothing saved
+    pub headline : Promise farm.plan ((farm.saved ≡ None) × (is_some (state was.store).told ≡ true)) (whole_history state farm turns)
+    -- So it is of a farm that was resumed, whose store held what was shown when another one stopped:
+    -- over runs that go on one from another `law_restart` says it without that premise
+    pub resumed : Promise farm.plan (StoreTells state was is farm) (whole_history state farm turns)
     -- And where every update that succeeded was made as a renew, over a store that tells what it
     -- holds: each tile sent as clean is the plain drawing of its style over the data of that very
     -- moment

@@ -3,6 +3,7 @@ pub mod Words
 pub mod Owing
 pub mod Keeps
 pub mod Served
+pub mod Restart
 pub mod Serves
 pub mod Beginnings
 pub mod Listens

@@ -10,15 +10,17 @@ use Rattle.farm_history.specs.Entries.{Entry}
 use Rattle.farm_history.specs.Replays.{Saving, IsSaved}
 use Rattle.farm_plan.specs.Drawings.{plan_of}
 use Rattle.farm_saved.specs.Writing.{saved_bytes}
+use Rattle.farm_saved.specs.Reading.{saved_in}
 use Rattle.farm_refinement.specs.Seen.{FarmSeen}
 use Rattle.farm_shared.specs.Shared.{IsAfter, lasting_of, past}
 use Rattle.tile_paths.specs.Paths.{saved_path}
 
 module _ {D : Type 0} (state : D → Outside StoreTold) where
-  -- The text of what is saved after the farm's history was put in its place, with this answer
+  -- The text of what is saved after the farm's history, which reads as just that, was put in its place, with this answer
   pub record PutsSaved (farm farm' : FarmSeen D) (log : List (ℕ × Entry)) (answer : Result (Unit {0}) StoreFault) : Type 0 where
     pub saving : Saving
     pub saved : IsSaved (plan_of farm.plan) (past (lasting_of state farm) log) saving
+    pub reads : saved_in (saved_bytes saving) ≡ Ok saving
     pub puts : StorePuts (state farm.store) (state farm'.store) saved_path (saved_bytes saving) answer
 
   -- how the saving went: the put was done; it failed; or memory was wanting, and the store shows what it showed

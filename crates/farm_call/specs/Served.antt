@@ -9,7 +9,6 @@ use Rattle.tile_store.specs.Stores.{StoreTold, StorePuts}
 use Rattle.tile_store.specs.declared.stores.StoreFault.TheVariants.{Failed}
 use Rattle.port_events.specs.declared.ends.FrontDone.{FrontDone}
 use Rattle.port_events.specs.Told.{PortsTold}
-use Rattle.exit_status.specs.declared.stops.Stop.{Stop}
 use Rattle.exit_status.specs.declared.stops.Stop.TheVariants as stop
 use Rattle.farm_history.specs.declared.answers.Collected.{Collected}
 use Rattle.farm_history.specs.Entries.{Entry, Collect, Stop as StopEntry}
@@ -18,6 +17,7 @@ use Rattle.farm_history.specs.Replays.{Saving, IsSaved}
 use Rattle.farm_plan.specs.Plans.{FarmPlan, maps_in}
 use Rattle.farm_plan.specs.Drawings.{plan_of}
 use Rattle.farm_saved.specs.Writing.{saved_bytes}
+use Rattle.farm_saved.specs.Reading.{saved_in}
 use Rattle.farm_core.specs.Answers.{at_saved}
 use Rattle.farm_core.specs.Begins.{Tells}
 use Rattle.farm_refinement.specs.Seen.{FarmSeen}
@@ -40,7 +40,6 @@ use Rattle.load_command.specs.Loads.{GivesNone}
 use Rattle.farm_call.specs.Serves.{whole_history}
 use Rattle.farm_call.specs.Serves.{places}
 use Rattle.farm_call.specs.Call.{CallBefore, CallAfter, End, store_of}
-use Rattle.farm_call.specs.Call.{puts}
 use Rattle.farm_call.specs.Owing.{IsPaidUp}
 
 module _ {D : Type 0} (state : D → Outside StoreTold) (was : CallBefore D) (is : CallAfter D) where
@@ -60,12 +59,12 @@ module _ {D : Type 0} (state : D → Outside StoreTold) (was : CallBefore D) (is
     pub puts : StorePuts before (state (store_of is.left)) saved_path (saved_bytes saving) (Err Failed)
 
   -- What was saved, by whether a farm is to be resumed, why the run ended and how the saving went:
-  -- after a run that ended in order the text of what is saved after its history, where it could be
-  -- put; else no bytes
+  -- after a run that ended in order the text of what is saved after its history, which reads as just
+  -- that, where it could be put; else no bytes
   abbrev pub SavesSo : FarmPlan → List Entry → Bool → End → End → Type 0
   SavesSo plan h false (Ok done) saved = saved ≡ Ok tt
   SavesSo plan h true (Ok done) (Ok done') =
-      (saving : Saving) × IsSaved (plan_of plan) h saving × HoldsSaved (saved_bytes saving)
+      (saving : Saving) × IsSaved (plan_of plan) h saving × (saved_in (saved_bytes saving) ≡ Ok saving) × HoldsSaved (saved_bytes saving)
   SavesSo plan h true (Ok done) (Err stop.StoreFailed) = SavingFailed plan h
   SavesSo plan h true (Ok done) (Err stop.NoMemory) = HoldsSaved []
   SavesSo plan h true (Ok done) (Err other) = ⊥

@@ -7,7 +7,7 @@
 //! handed in, or the farm that was served with its history: one record of what it was handed and what it left
 //! (`Keeps`). Of a farm that was served, the headline and eight points, each a field; the statuses 0 to 8 with their
 //! causes, 0 to 3 both ways but for want of memory, and the lines on standard error; with 4 a count of faults rose; 0
-//! or 5 where nothing is wrong (`docs/believe/commands.md` has its fields). Inside, `serve`: the files are read, a farm
+//! or 5 where nothing is wrong (`docs/believe/promise.md` tells of it). Inside, `serve`: the files are read, a farm
 //! is begun, its ports listen, three fronts serve it and its workers draw until it is stopped, and it is wound up
 //! (`Serves`: either no actor was started, and why, or the farm has served). Before a farm serves, `begin`: a farm of a
 //! plan over a store, begun anew or by what is saved there, or why not, and what the store shows then (`HasBegun`,
@@ -15,7 +15,8 @@
 //! three ports are listened on in order, and the first that does not listen is the last (`Listening`). After it has
 //! served, `why_ended`: the first that applies of turns used up, ports failed and memory wanting, by how the fronts
 //! ended; `wind_up`: the farm is saved where it resumes and ended in order, and then the line of its counts is put,
-//! without memory (`WindsUp`, `MaySave`).
+//! without memory (`WindsUp`, `MaySave`). `law_restart`: over runs each of which goes on where the one before stopped,
+//! what is promised of bytes needs of the store what the first run needs (`LawRestart`, `LawGoesOn`).
 #![tactic(auto)]
 
 mod arguments;
@@ -28,6 +29,7 @@ mod fronts;
 mod left;
 mod listens;
 mod reasons;
+mod restart;
 mod resumed;
 mod saves;
 mod serve;
@@ -37,3 +39,4 @@ pub use arguments::program;
 pub use call::farm_main;
 pub use ends::FarmEnd;
 pub use left::Left;
+pub use restart::law_restart;
