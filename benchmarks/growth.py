@@ -3,11 +3,12 @@
 
     benchmarks/growth.py [quick] [FAMILY..]          (all families where none is named; -l lists them)
 
-For each family stand its five sizes, the processor time and the memory of each size, without what the program takes for size 0
-where a family has one, and their exponents: p where a figure grows as the size to the power p, by least squares over the
-logarithms. Times are the least of so many runs as RUNS says (3), and memory is the least of their peaks. A row says why, where an
-exponent may be over 1.1. Those of `docs/carry-on/measurements.md` say what they should be; a family whose exponent is over 1.1 and has
-no reason is marked, and the status is then 1. Some ten minutes on a quiet machine. With TILEFARM another program is measured.
+For each family stand its five sizes, the processor time and the memory of each, and their exponents: p where what a figure has over
+that of the first size grows as the size has over the first one, to the power p, by least squares over the logarithms; so what is
+there at any size does not count. Where a figure grows by less than a fiftieth it has none. Times are the least of so many runs as RUNS
+says (3), and memory is the least of their peaks. A row says why, where an exponent may be over 1.1; one that is over it and has no reason
+is marked, and the status is then 1. Some ten minutes on a quiet machine; `quick` takes a sixteenth of each size, once. With TILEFARM
+another program is measured.
 """
 
 import json
@@ -84,7 +85,7 @@ def drawn(folder, made_style, made_data):
     spent, peak = beside.Farm(PROGRAM, folder, PLACE)(TURNS)
     with open(os.path.join(folder, "notes")) as notes:
         first = int(notes.readline()) / 1e9
-    return {"reading": max(first - min(spent), 1e-4), "drawing": min(spent), "memory": peak}
+    return {"reading": first - min(spent), "drawing": min(spent), "memory": peak}
 
 
 def features(folder, count):
@@ -196,28 +197,29 @@ def connections(folder, count):
         farm.end()
 
 
-# The least size, what is measured, whether it has a size 0, and the reason where a figure may grow by more than its size.
+# The least size, what is measured, and the reason where a figure may grow by more than its size.
 FAMILIES = {
-    "features": (12500, features, True, {}),
-    "layers": (4, layers, True, {}),
-    "styles": (4, styles, True, {}),
-    "rules": (16, rules, True, {}),
-    "attributes": (8, attributes, True, {}),
-    "points": (16384, points, True, {}),
-    "maps": (1, maps, False, {}),
-    "clean": (62500, clean, False, {}),
-    "updates": (50, changes, True, {}),
-    "connections": (62, connections, False, {}),
+    "features": (12500, features, {}),
+    "layers": (4, layers, {}),
+    "styles": (4, styles, {}),
+    "rules": (16, rules, {}),
+    "attributes": (8, attributes, {}),
+    "points": (16384, points, {}),
+    "maps": (1, maps, {}),
+    "clean": (62500, clean, {}),
+    "updates": (50, changes, {}),
+    "connections": (62, connections, {}),
 }
 
 # ---- exponents
 
 
 def exponent(sizes, figures):
-    """The slope of the logarithms by least squares, or None where a figure is none."""
-    if min(figures) <= 0:
+    """The slope of the logarithms of what is added, by least squares; None where nothing is."""
+    added = [(size - sizes[0], figure - figures[0]) for size, figure in zip(sizes[1:], figures[1:]) if figure > 1.02 * figures[0]]
+    if len(added) < 2:
         return None
-    xs, ys = [math.log(it) for it in sizes], [math.log(it) for it in figures]
+    xs, ys = [math.log(it) for it, _ in added], [math.log(it) for _, it in added]
     middle, level = sum(xs) / len(xs), sum(ys) / len(ys)
     return sum((x - middle) * (y - level) for x, y in zip(xs, ys)) / sum((x - middle) ** 2 for x in xs)
 
@@ -234,15 +236,14 @@ def shown(figure, is_memory):
 
 def family(name, part):
     """Prints the family's rows; how many of its exponents are over the most without a reason."""
-    first, measured, has_none, reasons = FAMILIES[name]
+    first, measured, reasons = FAMILIES[name]
     sizes, wrong = [max(1, first // part) << n for n in range(5)], 0
     with tempfile.TemporaryDirectory() as folder:
         compiled(folder)
         runs = RUNS if part == 1 else 1
-        none = least(folder, measured, 0, runs) if has_none else {}
         got = [least(folder, measured, size, runs) for size in sizes]
     for figure in got[0]:
-        they = [it[figure] - none.get(figure, 0) for it in got]
+        they = [it[figure] for it in got]
         power = exponent(sizes, they)
         over = power is not None and power > MOST and figure not in reasons
         wrong += over
