@@ -1,8 +1,7 @@
 //! What the words of the command line ask for.
 use std::alloc::Global;
-use std::env;
-use std::process::Abort;
 use std::rt::Env;
+use std::{env, io};
 
 /// Which benchmark is asked for.
 #[derive(Clone, Copy)]
@@ -21,42 +20,48 @@ pub(crate) enum Work {
     Rates,
 }
 
-/// What is asked for.
-#[derive(Clone, Copy)]
-pub(crate) enum Asked<'a> {
-    /// Echoes at this address.
-    Echoes(&'a str),
-    Lines(Bench, Work),
-    Nothing,
+/// The address behind the word `serve`, if these are the words.
+pub(crate) fn read_address<R: Env + Alloc<A = Global>>(rt: &R) -> io::Result<Option<String>> {
+    let mut words = env::args(rt)?.skip(1);
+    let (first, second) = (words.next(), words.next());
+    Ok(match first {
+        Some(word) if word.as_str() == "serve" => second,
+        _ => None,
+    })
 }
 
-/// The words of the command line, of which the first is the program's name.
-pub(crate) fn words<R: Env + Alloc<A = Global> + Abort>(rt: &R) -> Vec<String> {
-    let mut words = Vec::new(rt.alloc());
-    for word in env::args(rt).expect(rt, "words") {
-        words.push(word).ok().expect(rt, "memory");
-    }
-    words
-}
-
-/// What the words ask for.
-pub(crate) fn asked_for(words: &[String]) -> Asked<'_> {
-    match words {
-        [] | [_] => Asked::Lines(Bench::All, Work::Counts),
-        [_, bench] => lines(bench.as_str(), Work::Counts),
-        [_, serve, address] if serve.as_str() == "serve" => Asked::Echoes(address.as_str()),
-        [_, bench, rates] if rates.as_str() == "rates" => lines(bench.as_str(), Work::Rates),
-        _ => Asked::Nothing,
-    }
-}
-
-fn lines(name: &str, work: Work) -> Asked<'_> {
-    let bench = match name {
-        "filters" => Bench::Filters,
-        "turns" => Bench::Turns,
-        "tables" => Bench::Tables,
-        "ports" => Bench::Ports,
-        _ => return Asked::Nothing,
+/// Without words all are asked for; else the first word is one of them, and the word `rates` may follow.
+pub(crate) fn read_words(rt: &(impl Env + Alloc)) -> io::Result<Option<(Bench, Work)>> {
+    let mut words = env::args(rt)?;
+    let _program = words.next();
+    let Some(first) = words.next() else {
+        return Ok(Some((Bench::All, Work::Counts)));
     };
-    Asked::Lines(bench, work)
+    let work = match words.next() {
+        None => Some(Work::Counts),
+        Some(second) => rates(second.as_str()),
+    };
+    let is_last = words.next().is_none();
+    let (Some(bench), Some(work)) = (bench_named(first.as_str()), work) else {
+        return Ok(None);
+    };
+    Ok(if is_last { Some((bench, work)) } else { None })
+}
+
+fn bench_named(word: &str) -> Option<Bench> {
+    match word {
+        "filters" => Some(Bench::Filters),
+        "turns" => Some(Bench::Turns),
+        "tables" => Some(Bench::Tables),
+        "ports" => Some(Bench::Ports),
+        _ => None,
+    }
+}
+
+fn rates(word: &str) -> Option<Work> {
+    if word == "rates" {
+        Some(Work::Rates)
+    } else {
+        None
+    }
 }

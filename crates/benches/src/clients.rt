@@ -3,7 +3,6 @@ use std::alloc::Global;
 use std::io::{self, Read, Write};
 use std::net::{Shutdown, TcpStream};
 use std::os::unix::net::UnixStream;
-use std::process::Abort;
 
 /// What each connection sends, but for the first byte, which is the connection's number.
 const MESSAGE: [u8; 64] = [
@@ -67,54 +66,57 @@ impl Client for UnixStream {
 }
 
 /// So many bytes of a long text.
-pub(crate) fn long_text<R: Abort>(rt: &R, alloc: Global, length: usize) -> Vec<u8> {
-    let mut text = Vec::with_capacity(alloc, length).expect(rt, "memory");
+pub(crate) fn long_text(alloc: Global, length: usize) -> io::Result<Vec<u8>> {
+    let mut text = Vec::with_capacity(alloc, length)?;
     for place in 0..length {
-        text.push((place % PERIOD) as u8).expect(rt, "memory");
+        text.push((place % PERIOD) as u8)?;
     }
-    text
+    Ok(text)
 }
 
 /// All that clients do on their connections, which they then close. How many echoes came that equal what
 /// was sent, or how many bytes of anything else, up to the first piece that is not what was sent.
-pub(crate) fn visit<R: Abort, S: Client>(
-    rt: &R,
-    alloc: Global,
-    mut streams: Vec<S>,
-    task: Task,
-) -> u64 {
+pub(crate) fn visit<S: Client>(alloc: Global, mut streams: Vec<S>, task: Task) -> io::Result<u64> {
+    let came = visit_all(alloc, streams.as_mut_slice(), task);
+    drop(streams);
+    came
+}
+
+fn visit_all<S: Client>(alloc: Global, streams: &mut [S], task: Task) -> io::Result<u64> {
     if let Task::Echoes(_, rounds) = task {
-        return echoes(rt, streams.as_mut_slice(), rounds);
+        return echoes(streams, rounds);
     }
-    let stream = streams.first_mut().expect(rt, "a connection");
-    let mut room = vec![in alloc; 0u8; ROOM].expect(rt, "memory");
-    let wanted = long_text(rt, alloc, ROOM + PERIOD);
-    visit_one(rt, stream, room.as_mut_slice(), wanted.as_slice(), task)
+    let Some(stream) = streams.first_mut() else {
+        return Ok(0);
+    };
+    let mut room = vec![in alloc; 0u8; ROOM]?;
+    let wanted = long_text(alloc, ROOM + PERIOD)?;
+    visit_one(stream, room.as_mut_slice(), wanted.as_slice(), task)
 }
 
 /// What the client of one connection does. All that comes to it are bytes of the long text.
-fn visit_one<R: Abort, S: Client>(
-    rt: &R,
+fn visit_one<S: Client>(
     stream: &mut S,
     room: &mut [u8],
     wanted: &[u8],
     task: Task,
-) -> u64 {
+) -> io::Result<u64> {
     match task {
-        Task::Echoes(_, _) => 0,
+        Task::Echoes(_, _) => Ok(0),
         Task::Large(bytes) => {
-            stream.write_all(b"?").expect(rt, "a send");
-            count_bytes(rt, stream, room, wanted, bytes)
+            stream.write_all(b"?")?;
+            count_bytes(stream, room, wanted, bytes)
         }
         Task::Half(bytes) => {
-            let message = wanted.get(..bytes as usize).expect(rt, "a message");
-            stream.write_all(message).expect(rt, "a send");
-            stream.end_sending().expect(rt, "an end");
-            count_bytes(rt, stream, room, wanted, u64::MAX)
+            if let Some(message) = wanted.get(..bytes as usize) {
+                stream.write_all(message)?;
+            }
+            stream.end_sending()?;
+            count_bytes(stream, room, wanted, u64::MAX)
         }
         Task::Reset => {
-            stream.write_all(&MESSAGE).expect(rt, "a send");
-            count_bytes(rt, stream, &mut [0u8; 10], wanted, 10)
+            stream.write_all(&MESSAGE)?;
+            count_bytes(stream, &mut [0u8; 10], wanted, 10)
         }
     }
 }
@@ -127,43 +129,42 @@ fn message_of(number: usize) -> [u8; 64] {
 }
 
 /// So many times one message on each connection, and then all their echoes.
-fn echoes<R: Abort, S: Client>(rt: &R, streams: &mut [S], rounds: u32) -> u64 {
+fn echoes<S: Client>(streams: &mut [S], rounds: u32) -> io::Result<u64> {
     let mut equal = 0u64;
     let mut echo = [0u8; 64];
     for _ in 0..rounds {
         for (number, stream) in streams.iter_mut().enumerate() {
-            stream.write_all(&message_of(number)).expect(rt, "a send");
+            stream.write_all(&message_of(number))?;
         }
         for (number, stream) in streams.iter_mut().enumerate() {
-            stream.read_exact(&mut echo).expect(rt, "an echo");
+            stream.read_exact(&mut echo)?;
             if echo == message_of(number) {
                 equal = equal.saturating_add(1);
             }
         }
     }
-    equal
+    Ok(equal)
 }
 
 /// Reads so many bytes, or to the end, and counts those that are wanted.
-fn count_bytes<R: Abort, S: Client>(
-    rt: &R,
+fn count_bytes<S: Client>(
     stream: &mut S,
     room: &mut [u8],
     wanted: &[u8],
     most: u64,
-) -> u64 {
+) -> io::Result<u64> {
     let mut came = 0u64;
     for _ in 0..u64::MAX {
         if came >= most {
             break;
         }
-        let count = stream.read(room).expect(rt, "a read");
+        let count = stream.read(room)?;
         if count == 0 || !is_wanted(room, wanted, came, count) {
             break;
         }
         came = came.saturating_add(count as u64);
     }
-    came
+    Ok(came)
 }
 
 /// Whether the front of the room holds so many bytes of the long text, behind those that came.

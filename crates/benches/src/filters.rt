@@ -2,61 +2,94 @@
 use crate::asked::Work;
 use filter_expr::{Expr, parse};
 use filter_texts::write;
-use std::alloc::Global;
-use std::process::Abort;
+use std::alloc::{AllocError, Global};
+use std::io;
 use std::rt::Clock;
 use std::time::{Duration, Instant};
 
-/// The lines of reading and of writing the filter.
-pub(crate) fn filter_lines<R: Clock + Print + Abort>(rt: &R, alloc: Global, work: Work) {
-    let text = long_text(rt, alloc);
-    let start = Instant::now(rt).expect(rt, "a clock");
-    let filter = parse(alloc, text.as_str())
-        .ok()
-        .expect(rt, "a filter is read");
-    report_reading(rt, work, text.as_str().len(), &filter, start);
-    report_writing(rt, alloc, work, &filter);
+/// The lines of reading and of writing the filter: false where memory was wanting.
+pub(crate) fn filter_lines<R: Clock + Print>(
+    rt: &R,
+    alloc: Global,
+    work: Work,
+) -> io::Result<bool> {
+    let text = long_text(alloc)?;
+    let Some(filter) = report_reading(rt, alloc, work, text.as_str())? else {
+        return Ok(false);
+    };
+    let told = report_writing(rt, alloc, work, &filter);
     drop(filter);
+    told
 }
 
 /// Comparisons joined by `or`.
-fn long_text<R: Abort>(rt: &R, alloc: Global) -> String {
-    let mut text = String::from_str(alloc, "[a] = 1").expect(rt, "memory");
+fn long_text(alloc: Global) -> Result<String, AllocError> {
+    let mut text = String::from_str(alloc, "[a] = 1")?;
     for _ in 0..90_909 {
-        text.push_str(" or [a] = 1").expect(rt, "memory");
+        text.push_str(" or [a] = 1")?;
     }
-    text
+    Ok(text)
+}
+
+/// Reads the text and prints a line: none where it is no filter.
+fn report_reading<R: Clock + Print>(
+    rt: &R,
+    alloc: Global,
+    work: Work,
+    text: &str,
+) -> io::Result<Option<Expr>> {
+    let start = Instant::now(rt)?;
+    let Ok(filter) = parse(alloc, text) else {
+        return Ok(None);
+    };
+    match tell_reading(rt, work, text.len(), &filter, start) {
+        Ok(()) => Ok(Some(filter)),
+        Err(error) => {
+            drop(filter);
+            Err(error)
+        }
+    }
 }
 
 /// Prints what was read since that moment.
-fn report_reading<R: Clock + Print + Abort>(
+fn tell_reading<R: Clock + Print>(
     rt: &R,
     work: Work,
     bytes: usize,
     filter: &Expr,
     start: Instant,
-) {
-    let took = start.elapsed(rt).expect(rt, "a clock");
+) -> io::Result<()> {
+    let took = start.elapsed(rt)?;
     let parts = or_parts(filter);
-    println!(rt; "read: {bytes} bytes, {parts} parts").expect(rt, "standard output");
-    report_rate(rt, work, bytes, took);
+    println!(rt; "read: {bytes} bytes, {parts} parts")?;
+    report_rate(rt, work, bytes, took)
 }
 
-/// Writes the filter and prints a line.
-fn report_writing<R: Clock + Print + Abort>(rt: &R, alloc: Global, work: Work, filter: &Expr) {
-    let start = Instant::now(rt).expect(rt, "a clock");
-    let text = write(alloc, filter).expect(rt, "a filter is written");
-    let took = start.elapsed(rt).expect(rt, "a clock");
+/// Writes the filter and prints a line: false where memory was wanting.
+fn report_writing<R: Clock + Print>(
+    rt: &R,
+    alloc: Global,
+    work: Work,
+    filter: &Expr,
+) -> io::Result<bool> {
+    let start = Instant::now(rt)?;
+    let written = write(alloc, filter);
+    let took = start.elapsed(rt)?;
+    let Ok(text) = written else {
+        return Ok(false);
+    };
     let bytes = text.as_str().len();
-    println!(rt; "written: {bytes} bytes").expect(rt, "standard output");
-    report_rate(rt, work, bytes, took);
+    println!(rt; "written: {bytes} bytes")?;
+    report_rate(rt, work, bytes, took)?;
+    Ok(true)
 }
 
-fn report_rate<R: Print + Abort>(rt: &R, work: Work, bytes: usize, took: Duration) {
+fn report_rate<R: Print>(rt: &R, work: Work, bytes: usize, took: Duration) -> io::Result<()> {
     if work == Work::Rates {
         let rate = rate_of(bytes, took);
-        println!(rt; "{rate} bytes a second").expect(rt, "standard output");
+        println!(rt; "{rate} bytes a second")?;
     }
+    Ok(())
 }
 
 fn or_parts(e: &Expr) -> usize {

@@ -3,33 +3,35 @@ use farm_base::Bell;
 use port_events::{PortEvent, PortFault, Ports};
 use socket_ports::{SocketBell, SocketPorts};
 use std::alloc::Global;
-use std::fs;
 use std::net::{Net, TcpListener, TcpStream};
 use std::os::unix::net::UnixListener;
-use std::process::Abort;
 use std::rt::{Clock, Files};
 use std::thread::{self, Threads};
 use std::time::{Duration, Instant};
+use std::{fs, io};
 
 /// Prints of each address whether it is listened at.
-pub(crate) fn show<R>(rt: &R, alloc: Global, ports: &mut SocketPorts<R>)
+pub(crate) fn show<R>(rt: &R, alloc: Global, ports: &mut SocketPorts<R>) -> io::Result<()>
 where
-    R: Print + Files + Abort + Net<Listener = TcpListener, Stream = TcpStream>,
+    R: Print + Files + Net<Listener = TcpListener, Stream = TcpStream>,
 {
     // a socket file at which nobody listens any more, a plain file, and a port at which another listens
     drop(fs::remove_file(rt, "left.sock"));
-    drop(UnixListener::bind(rt, "left.sock").expect(rt, "a socket file"));
-    fs::write(rt, "plain", b"kept").expect(rt, "a plain file");
-    let other = TcpListener::bind(rt, "127.0.0.1:0").expect(rt, "a free port");
-    let port = other.local_addr().expect(rt, "its address").port();
-    let taken = format!(in alloc; "tcp:127.0.0.1:{port}").expect(rt, "memory");
-    show_each(rt, ports, taken.as_str());
+    drop(UnixListener::bind(rt, "left.sock")?);
+    fs::write(rt, "plain", b"kept")?;
+    let other = TcpListener::bind(rt, "127.0.0.1:0")?;
+    let port = other.local_addr()?.port();
+    let taken = format!(in alloc; "tcp:127.0.0.1:{port}")?;
+    let shown = show_each(rt, ports, taken.as_str());
+    drop(taken);
+    drop(other);
+    shown
 }
 
 /// Prints of each address whether it is listened at; at `taken` another listens.
-fn show_each<R>(rt: &R, ports: &mut SocketPorts<R>, taken: &str)
+fn show_each<R>(rt: &R, ports: &mut SocketPorts<R>, taken: &str) -> io::Result<()>
 where
-    R: Print + Files + Abort + Net<Listener = TcpListener, Stream = TcpStream>,
+    R: Print + Files + Net<Listener = TcpListener, Stream = TcpStream>,
 {
     for (name, address) in [
         ("no address", ""),
@@ -44,11 +46,11 @@ where
         ("one at which somebody listens", "unix:left.sock"),
     ] {
         let told = listen(ports, address);
-        println!(rt; "{name}: {told}").expect(rt, "standard output");
+        println!(rt; "{name}: {told}")?;
     }
     // these fail where the files are gone
-    fs::remove_file(rt, "plain").expect(rt, "the plain file is kept");
-    fs::remove_file(rt, "left.sock").expect(rt, "the socket file is kept");
+    fs::remove_file(rt, "plain")?;
+    fs::remove_file(rt, "left.sock")
 }
 
 fn listen<R: Net + Files>(ports: &mut SocketPorts<R>, address: &str) -> &'static str {
@@ -60,28 +62,30 @@ fn listen<R: Net + Files>(ports: &mut SocketPorts<R>, address: &str) -> &'static
 }
 
 /// Prints whether somebody listens at another address of loopback, at the port of an address at which ports listen.
-pub(crate) fn show_elsewhere<R>(rt: &R, alloc: Global, place: &str)
+pub(crate) fn show_elsewhere<R>(rt: &R, alloc: Global, place: &str) -> io::Result<()>
 where
-    R: Print + Abort + Net<Listener = TcpListener, Stream = TcpStream>,
+    R: Print + Net<Listener = TcpListener, Stream = TcpStream>,
 {
-    let (_address, port) = place.split_once(':').expect(rt, "a port");
-    let other = format!(in alloc; "127.0.0.2:{port}").expect(rt, "memory");
+    let Some((_address, port)) = place.split_once(':') else {
+        return Ok(());
+    };
+    let other = format!(in alloc; "127.0.0.2:{port}")?;
     let told = match TcpStream::connect(rt, other.as_str()) {
         Ok(_stream) => "somebody listens",
         Err(_) => "nobody listens",
     };
-    println!(rt; "tcp, at another address of this machine: {told}").expect(rt, "standard output");
+    println!(rt; "tcp, at another address of this machine: {told}")
 }
 
 /// Rings a bell while ports wait, again and again, and prints what they heard; where rates are asked
 /// for also how long it took at most.
-pub(crate) fn show_bell<R: Threads + Sync + Clock + Print + Abort, P: Ports>(
+pub(crate) fn show_bell<R: Threads + Sync + Clock + Print, P: Ports>(
     rt: &R,
     alloc: Global,
     ports: &mut P,
     bell: &SocketBell,
     rates: bool,
-) {
+) -> io::Result<()> {
     let mut woken = 0u32;
     let mut longest = Duration::ZERO;
     for _ in 0..10 {
@@ -89,29 +93,30 @@ pub(crate) fn show_bell<R: Threads + Sync + Clock + Print + Abort, P: Ports>(
         if matches!(event, PortEvent::Woken) {
             woken = woken.saturating_add(1);
         }
-        longest = longest.max(heard.duration_since(rung));
+        longest = longest.max(heard?.duration_since(rung?));
     }
-    print!(rt; "a bell that rings 10 times while they wait: Woken {woken} times").expect(
-        rt,
-        "standard output",
-    );
+    print!(rt; "a bell that rings 10 times while they wait: Woken {woken} times")?;
     if rates {
         let micros = longest.as_micros();
-        print!(rt; ", after {micros} microseconds at most").expect(rt, "standard output");
+        print!(rt; ", after {micros} microseconds at most")?;
     }
-    rt.println("").expect(rt, "standard output");
+    println!(rt; "")
 }
 
 /// Rings when the ports wait, and says when.
-fn ring<R: Clock + Abort>(rt: &R, bell: &SocketBell) -> Instant {
+fn ring<R: Clock>(rt: &R, bell: &SocketBell) -> io::Result<Instant> {
     thread::sleep(rt, Duration::from_millis(5));
-    let rung = Instant::now(rt).expect(rt, "a clock");
+    let rung = Instant::now(rt);
     bell.ring();
     rung
 }
 
 /// What the ports hear, and when.
-fn hear<R: Clock + Abort, P: Ports>(rt: &R, alloc: Global, ports: &mut P) -> (PortEvent, Instant) {
+fn hear<R: Clock, P: Ports>(
+    rt: &R,
+    alloc: Global,
+    ports: &mut P,
+) -> (PortEvent, io::Result<Instant>) {
     let event = ports.next(&mut Vec::new(alloc));
-    (event, Instant::now(rt).expect(rt, "a clock"))
+    (event, Instant::now(rt))
 }

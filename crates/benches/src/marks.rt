@@ -3,9 +3,10 @@ ghost use Rattle.plain_world.specs.World.{IsMeta, IsTile};
 
 use crate::tables::{Calls, tell_time};
 use expiry_lists::{Key, Marks};
+use farm_base::NoMemory;
 use plain_world::{Meta, Tile};
 use std::alloc::Global;
-use std::process::Abort;
+use std::io;
 use std::rt::Clock;
 use std::time::Instant;
 
@@ -29,12 +30,13 @@ fn tile_at(number: u32) -> Tile
 }
 
 /// Shows so many metatiles, all of them clean.
-fn show_all<R: Abort>(rt: &R, marks: &mut Marks, count: u32) {
+fn show_all(marks: &mut Marks, count: u32) -> Result<(), NoMemory> {
     for number in 0..count {
-        marks.reserve_one().expect(rt, "memory");
+        marks.reserve_one()?;
         let meta = meta_at(number);
         marks.show(Key { map: 0, meta }, 0, true);
     }
+    Ok(())
 }
 
 /// Expires so many tiles of zoom 18, each in another metatile: how many clean ones they met.
@@ -47,42 +49,51 @@ fn expire_tiles(marks: &mut Marks, tiles: u32) -> u64 {
     clean
 }
 
-/// Shows.
-fn show_lines<R: Clock + Print + Abort>(rt: &R, work: Calls, marks: &mut Marks) {
-    let start = Instant::now(rt).expect(rt, "a clock");
-    show_all(rt, marks, work.shown);
-    let took = start.elapsed(rt).expect(rt, "a clock");
-    println!(rt; "{} metatiles shown", work.shown).expect(rt, "standard output");
-    tell_time(rt, work, took, work.shown);
+/// Shows: false where memory was wanting.
+fn show_lines<R: Clock + Print>(rt: &R, work: Calls, marks: &mut Marks) -> io::Result<bool> {
+    let start = Instant::now(rt)?;
+    if show_all(marks, work.shown).is_err() {
+        return Ok(false);
+    }
+    let took = start.elapsed(rt)?;
+    println!(rt; "{} metatiles shown", work.shown)?;
+    tell_time(rt, work, took, work.shown)?;
+    Ok(true)
 }
 
 /// Expires tile by tile.
-fn expire_lines<R: Clock + Print + Abort>(rt: &R, work: Calls, marks: &mut Marks) {
-    let start = Instant::now(rt).expect(rt, "a clock");
+fn expire_lines<R: Clock + Print>(rt: &R, work: Calls, marks: &mut Marks) -> io::Result<()> {
+    let start = Instant::now(rt)?;
     let clean = expire_tiles(marks, work.tiles);
-    let took = start.elapsed(rt).expect(rt, "a clock");
-    println!(rt; "{} tiles of zoom 18 expired: {clean} clean", work.tiles).expect(
-        rt,
-        "standard output",
-    );
-    tell_time(rt, work, took, work.tiles);
+    let took = start.elapsed(rt)?;
+    println!(rt; "{} tiles of zoom 18 expired: {clean} clean", work.tiles)?;
+    tell_time(rt, work, took, work.tiles)
 }
 
 /// Expires the world.
-fn world_lines<R: Clock + Print + Abort>(rt: &R, work: Calls, marks: &mut Marks) {
-    let start = Instant::now(rt).expect(rt, "a clock");
+fn world_lines<R: Clock + Print>(rt: &R, work: Calls, marks: &mut Marks) -> io::Result<()> {
+    let start = Instant::now(rt)?;
     let clean = marks.expire(Tile { z: 0, x: 0, y: 0 });
-    let took = start.elapsed(rt).expect(rt, "a clock");
-    println!(rt; "the world expired: {clean} clean").expect(rt, "standard output");
-    tell_time(rt, work, took, 1);
+    let took = start.elapsed(rt)?;
+    println!(rt; "the world expired: {clean} clean")?;
+    tell_time(rt, work, took, 1)
 }
 
-/// Shows, expires tile by tile, and expires the world twice, each with its line.
-pub(crate) fn mark_lines<R: Clock + Print + Abort>(rt: &R, alloc: Global, work: Calls) {
+/// Shows, expires tile by tile, and expires the world twice, each with its line: false where memory was wanting.
+fn lines<R: Clock + Print>(rt: &R, work: Calls, marks: &mut Marks) -> io::Result<bool> {
+    if !show_lines(rt, work, marks)? {
+        return Ok(false);
+    }
+    expire_lines(rt, work, marks)?;
+    world_lines(rt, work, marks)?;
+    world_lines(rt, work, marks)?;
+    Ok(true)
+}
+
+/// The lines of the marks: false where memory was wanting.
+pub(crate) fn mark_lines<R: Clock + Print>(rt: &R, alloc: Global, work: Calls) -> io::Result<bool> {
     let mut marks = Marks::new(alloc);
-    show_lines(rt, work, &mut marks);
-    expire_lines(rt, work, &mut marks);
-    world_lines(rt, work, &mut marks);
-    world_lines(rt, work, &mut marks);
+    let told = lines(rt, work, &mut marks);
     drop(marks);
+    told
 }

@@ -6,30 +6,33 @@ use crate::{listens, runs};
 use port_events::Ports;
 use socket_ports::SocketBell;
 use std::alloc::Global;
+use std::io;
 use std::net::{Net, TcpListener, TcpStream};
-use std::process::Abort;
 use std::rt::{Clock, Files};
 use std::thread::Threads;
 
-/// At which addresses ports listen, and what clients and ports heard. For rates a hundred times as much is sent.
+/// At which addresses ports listen, and what clients and ports heard: false where the ports failed. For rates a hundred
+/// times as much is sent.
 pub(crate) fn port_lines<R>(
     rt: &R,
     alloc: Global,
     work: Work,
     echo: &mut Echo<R>,
     bell: &SocketBell,
-)
+) -> io::Result<bool>
 where
-    R: Threads + Sync + Clock + Print + Files + Abort,
+    R: Threads + Sync + Clock + Print + Files,
     R: Net<Listener = TcpListener, Stream = TcpStream>,
 {
     let rates = work == Work::Rates;
     // a bell is heard from the first listen on, also where it fails
     drop(echo.ports.listen(""));
-    listens::show_bell(rt, alloc, &mut echo.ports, bell, rates);
-    listens::show(rt, alloc, &mut echo.ports);
-    runs::show_all(rt, alloc, echo, bell, Kind::Tcp, rates);
-    runs::show_all(rt, alloc, echo, bell, Kind::Unix, rates);
+    listens::show_bell(rt, alloc, &mut echo.ports, bell, rates)?;
+    listens::show(rt, alloc, &mut echo.ports)?;
+    Ok(
+        runs::show_all(rt, alloc, echo, bell, Kind::Tcp, rates)?
+            && runs::show_all(rt, alloc, echo, bell, Kind::Unix, rates)?,
+    )
 }
 
 /// Echoes what the clients of another program send to the address, until it is stopped: false where the ports failed.

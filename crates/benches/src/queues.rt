@@ -3,7 +3,7 @@ use crate::tables::{Calls, tell_time};
 use plain_world::Meta;
 use render_queues::{Conn, Key, Limits, Outcome, Queue, Queues, Waiter};
 use std::alloc::Global;
-use std::process::Abort;
+use std::io;
 use std::rt::Clock;
 use std::time::{Duration, Instant};
 
@@ -97,20 +97,17 @@ fn leave_all(queues: &mut Queues) -> u64 {
 }
 
 /// Fills the queues and empties them by leaving, so often.
-fn leave_lines<R: Clock + Print + Abort>(rt: &R, work: Calls, queues: &mut Queues) {
+fn leave_lines<R: Clock + Print>(rt: &R, work: Calls, queues: &mut Queues) -> io::Result<()> {
     let mut asks = 0u64;
     let mut took = Duration::from_secs(0);
     for _ in 0..work.leaves {
         fill(queues, MOST_ASKS);
-        let start = Instant::now(rt).expect(rt, "a clock");
+        let start = Instant::now(rt)?;
         asks = asks.saturating_add(leave_all(queues));
-        took = took.saturating_add(start.elapsed(rt).expect(rt, "a clock"));
+        took = took.saturating_add(start.elapsed(rt)?);
     }
-    println!(rt; "64 connections left {} times: {asks} asks", work.leaves).expect(
-        rt,
-        "standard output",
-    );
-    tell_time(rt, work, took, work.leaves.saturating_mul(64));
+    println!(rt; "64 connections left {} times: {asks} asks", work.leaves)?;
+    tell_time(rt, work, took, work.leaves.saturating_mul(64))
 }
 
 /// Takes and ends what waits in the dirty queue: how many metatiles.
@@ -137,38 +134,47 @@ fn fill_dirty(queues: &mut Queues) -> u32 {
 }
 
 /// Rounds over queues in which all but two asks are open.
-fn round_lines<R: Clock + Print + Abort>(rt: &R, work: Calls, queues: &mut Queues) {
+fn round_lines<R: Clock + Print>(rt: &R, work: Calls, queues: &mut Queues) -> io::Result<()> {
     fill(queues, MOST_ASKS - 2);
     let open = queues.asks().saturating_add(2);
-    let start = Instant::now(rt).expect(rt, "a clock");
+    let start = Instant::now(rt)?;
     let replies = rounds(queues, work.rounds);
-    let took = start.elapsed(rt).expect(rt, "a clock");
+    let took = start.elapsed(rt)?;
     println!(rt;
         "{open} asks open: {} rounds, {replies} replies",
         work.rounds
-    )
-    .expect(rt, "standard output");
-    tell_time(rt, work, took, work.rounds);
+    )?;
+    tell_time(rt, work, took, work.rounds)
 }
 
 /// A full dirty queue.
-fn dirty_lines<R: Clock + Print + Abort>(rt: &R, work: Calls, queues: &mut Queues) {
+fn dirty_lines<R: Clock + Print>(rt: &R, work: Calls, queues: &mut Queues) -> io::Result<()> {
     let placed = fill_dirty(queues);
-    let start = Instant::now(rt).expect(rt, "a clock");
+    let start = Instant::now(rt)?;
     let taken = empty_dirty(queues);
-    let took = start.elapsed(rt).expect(rt, "a clock");
-    println!(rt; "{placed} metatiles in the dirty queue: {taken} taken").expect(
-        rt,
-        "standard output",
-    );
-    tell_time(rt, work, took, taken);
+    let took = start.elapsed(rt)?;
+    println!(rt; "{placed} metatiles in the dirty queue: {taken} taken")?;
+    tell_time(rt, work, took, taken)
 }
 
 /// Rounds, connections that leave, and a full dirty queue, each with its line.
-pub(crate) fn queue_lines<R: Clock + Print + Abort>(rt: &R, alloc: Global, work: Calls) {
-    let mut queues = Queues::with_limits(alloc, LIMITS, 16).expect(rt, "memory");
-    round_lines(rt, work, &mut queues);
-    leave_lines(rt, work, &mut queues);
-    dirty_lines(rt, work, &mut queues);
+fn lines<R: Clock + Print>(rt: &R, work: Calls, queues: &mut Queues) -> io::Result<()> {
+    round_lines(rt, work, queues)?;
+    leave_lines(rt, work, queues)?;
+    dirty_lines(rt, work, queues)
+}
+
+/// The lines of the queues: false where memory was wanting.
+pub(crate) fn queue_lines<R: Clock + Print>(
+    rt: &R,
+    alloc: Global,
+    work: Calls,
+) -> io::Result<bool> {
+    let Ok(mut queues) = Queues::with_limits(alloc, LIMITS, 16) else {
+        return Ok(false);
+    };
+    let told = lines(rt, work, &mut queues);
     drop(queues);
+    told?;
+    Ok(true)
 }

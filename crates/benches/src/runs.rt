@@ -1,18 +1,17 @@
 //! Runs: clients at a free address of the server, and what both of them saw.
 use crate::clients::{Client, Task, long_text, visit};
-use crate::echo::{Echo, Heard, Server};
+use crate::echo::{Echo, Server};
 use crate::listens::show_elsewhere;
 use farm_base::Bell;
 use port_events::Ports;
 use socket_ports::{SocketBell, SocketPorts};
 use std::alloc::Global;
-use std::fs;
 use std::net::{Net, TcpListener, TcpStream};
 use std::os::unix::net::UnixStream;
-use std::process::Abort;
 use std::rt::{Clock, Files};
 use std::thread::{self, Threads};
 use std::time::{Duration, Instant};
+use std::{fs, io};
 
 /// How many bytes are offered at once of a large answer.
 const PART: usize = 1 << 18;
@@ -33,7 +32,7 @@ impl Kind {
     }
 }
 
-/// Shows what clients do, one thing after another, over sockets of one kind.
+/// Shows what clients do, one thing after another, over sockets of one kind: false where the ports fail.
 pub(crate) fn show_all<R>(
     rt: &R,
     alloc: Global,
@@ -41,14 +40,21 @@ pub(crate) fn show_all<R>(
     bell: &SocketBell,
     kind: Kind,
     rates: bool,
-)
+) -> io::Result<bool>
 where
-    R: Threads + Sync + Clock + Print + Files + Abort,
+    R: Threads + Clock + Print + Files,
     R: Net<Listener = TcpListener, Stream = TcpStream>,
 {
-    let place = listen_free(rt, alloc, &mut echo.ports, kind);
-    let place = place.as_str();
-    show_at(rt, alloc, echo, bell, Address { kind, place }, rates);
+    let Some(place) = listen_free(rt, alloc, &mut echo.ports, kind)? else {
+        return Ok(false);
+    };
+    let address = Address {
+        kind,
+        place: place.as_str(),
+    };
+    let shown = show_at(rt, alloc, echo, bell, address, rates);
+    drop(place);
+    shown
 }
 
 /// Where clients call: the kind of their sockets, and the address.
@@ -66,16 +72,16 @@ fn show_at<R>(
     bell: &SocketBell,
     address: Address<'_>,
     rates: bool,
-)
+) -> io::Result<bool>
 where
-    R: Threads + Sync + Clock + Print + Files + Abort,
+    R: Threads + Clock + Print + Files,
     R: Net<Listener = TcpListener, Stream = TcpStream>,
 {
     let many = if rates { 100u32 } else { 1 };
     if address.kind == Kind::Tcp {
-        show_elsewhere(rt, alloc, address.place);
+        show_elsewhere(rt, alloc, address.place)?;
     }
-    echo.part = long_text(rt, alloc, PART);
+    echo.part = long_text(alloc, PART)?;
     for (name, task) in [
         ("one connection", Task::Echoes(1, many.saturating_mul(1000))),
         (
@@ -90,15 +96,18 @@ where
         ("one that closes with bytes unread", Task::Reset),
     ] {
         let kind_name = address.kind.name();
-        print!(rt; "{kind_name}, {name}").expect(rt, "standard output");
-        show_task(rt, alloc, echo, bell, address, task, rates);
+        print!(rt; "{kind_name}, {name}")?;
+        if !show_task(rt, alloc, echo, bell, address, task, rates)? {
+            return Ok(false);
+        }
     }
     if address.kind == Kind::Unix {
-        fs::remove_file(rt, address.place).expect(rt, "the socket file is kept");
+        fs::remove_file(rt, address.place)?;
     }
+    Ok(true)
 }
 
-/// Shows what the clients of one task do.
+/// Shows what the clients of one task do: false where the ports fail.
 fn show_task<R>(
     rt: &R,
     alloc: Global,
@@ -107,31 +116,55 @@ fn show_task<R>(
     address: Address<'_>,
     task: Task,
     rates: bool,
-)
+) -> io::Result<bool>
 where
-    R: Threads + Sync + Clock + Print + Files + Abort,
+    R: Threads + Clock + Print + Files,
     R: Net<Listener = TcpListener, Stream = TcpStream>,
 {
-    let start = Instant::now(rt).expect(rt, "a clock");
+    let start = Instant::now(rt)?;
     echo.large = task.large();
     echo.taken = 0;
-    let came = match address.kind {
+    let (served, came) = call(rt, alloc, echo, bell, address, task)?;
+    let took = start.elapsed(rt)?;
+    show(rt, echo, came, took, rates)?;
+    Ok(served)
+}
+
+/// Connects the clients of a task and serves them: whether that went in order, and what came to them.
+fn call<R>(
+    rt: &R,
+    alloc: Global,
+    echo: &mut Echo<R>,
+    bell: &SocketBell,
+    address: Address<'_>,
+    task: Task,
+) -> io::Result<(bool, u64)>
+where
+    R: Threads + Clock + Print + Files,
+    R: Net<Listener = TcpListener, Stream = TcpStream>,
+{
+    match address.kind {
         Kind::Tcp => {
-            let streams = connect_tcp(rt, alloc, address.place, task);
+            let streams = connect_tcp(rt, alloc, address.place, task)?;
             serve(rt, alloc, echo, bell, streams, task)
         }
         Kind::Unix => {
-            let streams = connect_unix(rt, alloc, address.place, task);
+            let streams = connect_unix(rt, alloc, address.place, task)?;
             serve(rt, alloc, echo, bell, streams, task)
         }
-    };
-    let took = start.elapsed(rt).expect(rt, "a clock");
-    show(rt, echo.heard, came, took, rates);
+    }
 }
 
 /// Prints what came to the clients and what the server heard, and where rates are asked for how much came
 /// a second.
-fn show<R: Print + Abort>(rt: &R, heard: Heard, came: u64, took: Duration, rates: bool) {
+fn show<R: Print>(
+    rt: &R,
+    echo: &Echo<R>,
+    came: u64,
+    took: Duration,
+    rates: bool,
+) -> io::Result<()> {
+    let heard = echo.heard;
     for (name, number) in [
         ("came", came),
         ("opened", heard.opened),
@@ -141,93 +174,87 @@ fn show<R: Print + Abort>(rt: &R, heard: Heard, came: u64, took: Duration, rates
         ("a second", rate_of(came, took)),
     ] {
         if rates || name != "a second" {
-            print!(rt; ", {name} {number}").expect(rt, "standard output");
+            print!(rt; ", {name} {number}")?;
         }
     }
-    rt.println("").expect(rt, "standard output");
+    println!(rt; "")
 }
 
 /// Listens at an address of loopback at which nobody listens, and answers how clients call it.
-fn listen_free<R>(rt: &R, alloc: Global, ports: &mut SocketPorts<R>, kind: Kind) -> String
+fn listen_free<R>(
+    rt: &R,
+    alloc: Global,
+    ports: &mut SocketPorts<R>,
+    kind: Kind,
+) -> io::Result<Option<String>>
 where
-    R: Files + Abort + Net<Listener = TcpListener, Stream = TcpStream>,
+    R: Files + Net<Listener = TcpListener, Stream = TcpStream>,
 {
     // another program may be quicker to listen there
     for number in 0..8u32 {
-        let place = free_place(rt, alloc, kind, number);
+        let place = match kind {
+            Kind::Tcp => {
+                let port = TcpListener::bind(rt, "127.0.0.1:0")?.local_addr()?.port();
+                format!(in alloc; "127.0.0.1:{port}")?
+            }
+            Kind::Unix => format!(in alloc; "echo{number}.sock")?,
+        };
         let kind_name = kind.name();
-        let address = format!(in alloc; "{kind_name}:{place}").expect(rt, "memory");
+        let address = format!(in alloc; "{kind_name}:{place}")?;
         if ports.listen(address.as_str()).is_ok() {
-            return place;
+            return Ok(Some(place));
         }
     }
-    rt.panic("no address to listen at")
+    Ok(None)
 }
 
-/// An address of loopback at which nobody listened a moment ago.
-fn free_place<R>(rt: &R, alloc: Global, kind: Kind, number: u32) -> String
-where
-    R: Abort + Net<Listener = TcpListener, Stream = TcpStream>,
-{
-    match kind {
-        Kind::Tcp => {
-            let listener = TcpListener::bind(rt, "127.0.0.1:0").expect(rt, "a free port");
-            let port = listener.local_addr().expect(rt, "its address").port();
-            format!(in alloc; "127.0.0.1:{port}").expect(rt, "memory")
-        }
-        Kind::Unix => format!(in alloc; "echo{number}.sock").expect(rt, "memory"),
-    }
-}
-
-/// Serves clients that are connected: what came to them.
-fn serve<R: Threads + Sync + Abort, E: Server, S: Client + Send>(
+/// Serves clients that are connected: whether that went in order, and what came to them.
+fn serve<R: Threads, E: Server, S: Client + Send>(
     rt: &R,
     alloc: Global,
     server: &mut E,
     bell: &SocketBell,
     streams: Vec<S>,
     task: Task,
-) -> u64 {
+) -> io::Result<(bool, u64)> {
     let (came, served) = thread::join(
         rt,
         || {
-            let came = visit(rt, alloc, streams, task);
+            let came = visit(alloc, streams, task);
             bell.ring();
             came
         },
         || server.serve(),
     );
-    assert!(rt; served);
-    came
+    Ok((served, came?))
 }
 
-fn connect_tcp<R: Abort + Net<Stream = TcpStream>>(
+fn connect_tcp<R: Net<Stream = TcpStream>>(
     rt: &R,
     alloc: Global,
     place: &str,
     task: Task,
-) -> Vec<TcpStream> {
+) -> io::Result<Vec<TcpStream>> {
     let mut streams = Vec::new(alloc);
     for _ in 0..task.connections() {
-        let stream = TcpStream::connect(rt, place).expect(rt, "a connection");
-        stream.set_nodelay(true).expect(rt, "no delay");
-        streams.push(stream).ok().expect(rt, "memory");
+        let stream = TcpStream::connect(rt, place)?;
+        stream.set_nodelay(true)?;
+        streams.push(stream)?;
     }
-    streams
+    Ok(streams)
 }
 
-fn connect_unix<R: Abort + Files + Net>(
+fn connect_unix<R: Files + Net>(
     rt: &R,
     alloc: Global,
     place: &str,
     task: Task,
-) -> Vec<UnixStream> {
+) -> io::Result<Vec<UnixStream>> {
     let mut streams = Vec::new(alloc);
     for _ in 0..task.connections() {
-        let stream = UnixStream::connect(rt, place).expect(rt, "a connection");
-        streams.push(stream).ok().expect(rt, "memory");
+        streams.push(UnixStream::connect(rt, place)?)?;
     }
-    streams
+    Ok(streams)
 }
 
 /// So many a second, without the fraction. A time below a millisecond counts as one.

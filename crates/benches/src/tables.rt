@@ -4,7 +4,7 @@ use crate::asked;
 use crate::marks::mark_lines;
 use crate::queues::queue_lines;
 use std::alloc::Global;
-use std::process::Abort;
+use std::io;
 use std::rt::Clock;
 use std::time::Duration;
 
@@ -39,19 +39,28 @@ const RATES: Calls = Calls {
 };
 
 /// Prints what one of so many took, where times are told.
-pub(crate) fn tell_time<R: Print + Abort>(rt: &R, work: Calls, took: Duration, count: u32) {
+pub(crate) fn tell_time<R: Print>(
+    rt: &R,
+    work: Calls,
+    took: Duration,
+    count: u32,
+) -> io::Result<()> {
     if work.is_timed {
         let each = took.as_nanos().checked_div(u128::from(count)).unwrap_or(0);
-        println!(rt; "{each} nanoseconds each").expect(rt, "standard output");
+        println!(rt; "{each} nanoseconds each")?;
     }
+    Ok(())
 }
 
-/// The lines of the queues and of the marks.
-pub(crate) fn table_lines<R: Clock + Print + Abort>(rt: &R, alloc: Global, work: asked::Work) {
+/// The lines of the queues and of the marks: false where memory was wanting.
+pub(crate) fn table_lines<R: Clock + Print>(
+    rt: &R,
+    alloc: Global,
+    work: asked::Work,
+) -> io::Result<bool> {
     let calls = match work {
         asked::Work::Counts => COUNTS,
         asked::Work::Rates => RATES,
     };
-    queue_lines(rt, alloc, calls);
-    mark_lines(rt, alloc, calls);
+    Ok(queue_lines(rt, alloc, calls)? && mark_lines(rt, alloc, calls)?)
 }

@@ -4,23 +4,24 @@ ghost use Rattle.std.specs.Prelude.{◌<◌};
 use crate::asked::Work;
 use crate::{under_cell, under_mutex};
 use std::alloc::Global;
-use std::process::Abort;
+use std::io;
 use std::rt::Clock;
 use std::sync::Wait;
 use std::thread::Threads;
 use std::time::{Duration, Instant};
 
-/// The lines of both locks, each with 1, 2 and 4 threads.
-pub(crate) fn turn_lines<R: Threads + Wait + Sync + Clock + Print + Abort>(
+/// The lines of both locks, each with 1, 2 and 4 threads: false where memory was wanting.
+pub(crate) fn turn_lines<R: Threads + Wait + Sync + Clock + Print>(
     rt: &R,
     alloc: Global,
     work: Work,
-) {
+) -> io::Result<bool> {
     for lock in [Lock::Cell, Lock::Mutex] {
-        report(rt, alloc, work, lock, 1);
-        report(rt, alloc, work, lock, 2);
-        report(rt, alloc, work, lock, 4);
+        if !report_each(rt, alloc, work, lock)? {
+            return Ok(false);
+        }
     }
+    Ok(true)
 }
 
 /// Which lock the counter is under.
@@ -49,29 +50,49 @@ impl Work {
     }
 }
 
-/// Takes the turns with so many threads and prints a line.
-fn report<R: Threads + Wait + Sync + Clock + Print + Abort>(
+/// The lines of one lock, for 1, 2 and 4 threads: false where memory was wanting.
+fn report_each<R: Threads + Wait + Sync + Clock + Print>(
+    rt: &R,
+    alloc: Global,
+    work: Work,
+    lock: Lock,
+) -> io::Result<bool> {
+    Ok(
+        report(rt, alloc, work, lock, 1)?
+            && report(rt, alloc, work, lock, 2)?
+            && report(rt, alloc, work, lock, 4)?,
+    )
+}
+
+/// Takes the turns with so many threads and prints a line: false where memory was wanting.
+fn report<R: Threads + Wait + Sync + Clock + Print>(
     rt: &R,
     alloc: Global,
     work: Work,
     lock: Lock,
     threads: usize,
-)
+) -> io::Result<bool>
     requires { 0 < threads }
 {
     let each = work.turns() / threads as u64;
-    let start = Instant::now(rt).expect(rt, "a clock");
-    let turns = match lock {
+    let start = Instant::now(rt)?;
+    let counted = match lock {
         Lock::Cell => under_cell::count(rt, alloc, threads, each),
         Lock::Mutex => under_mutex::count(rt, alloc, threads, each),
     };
-    let took = start.elapsed(rt).expect(rt, "a clock");
+    let took = start.elapsed(rt)?;
+    let Some(turns) = counted else {
+        return Ok(false);
+    };
     let name = lock.name();
-    print!(rt; "{name}, threads {threads}: {turns} turns").expect(rt, "standard output");
-    if work == Work::Rates {
-        print!(rt; ", {} a second", rate_of(turns, took)).expect(rt, "standard output");
+    match work {
+        Work::Counts => println!(rt; "{name}, threads {threads}: {turns} turns")?,
+        Work::Rates => {
+            let rate = rate_of(turns, took);
+            println!(rt; "{name}, threads {threads}: {turns} turns, {rate} a second")?
+        }
     }
-    rt.println("").expect(rt, "standard output");
+    Ok(true)
 }
 
 /// Turns a second, without the fraction. A time below a millisecond counts as one.

@@ -1,9 +1,8 @@
 //! The counter under a turn cell.
-ghost use Rattle.std.specs.Prelude.{◌≡◌, ◌+◌, ◌<◌, true, length, All, vec_len};
+ghost use Rattle.std.specs.Prelude.{◌≡◌, ◌+◌, ◌<◌, true, length, All, IfSome, vec_len};
 ghost use Rattle.turn_cell.specs.SeatStates.{IsSeatOf};
 
 use std::alloc::Global;
-use std::process::Abort;
 use std::sync::Wait;
 use std::thread::{Threads, for_each_mut};
 use turn_cell::{Call, Seat, StandsFor, TurnCell};
@@ -47,45 +46,48 @@ impl Call<Counter> for Add {
 }
 
 /// How many turns a cell has counted when that many threads took `each` of them: as many as its
-/// history has entries.
-pub(crate) fn count<R: Threads + Wait + Sync + Abort>(
+/// history has entries. Nothing where memory was wanting.
+pub(crate) fn count<R: Threads + Wait + Sync>(
     rt: &R,
     alloc: Global,
     threads: usize,
     each: u64,
-) -> u64
+) -> Option<u64>
     requires { 0 < threads }
 {
     let Ok((cell, mut first)) = TurnCell::new(alloc, Counter { count: 0 }, 1 << 62) else {
-        panic!(rt; "no memory");
+        return None;
     };
-    let mut seats = split_all(rt, alloc, &cell, &mut first, threads);
+    let Some(mut seats) = split_all(alloc, &cell, &mut first, threads) else {
+        drop(first);
+        drop(cell);
+        return None;
+    };
     take_beside(rt, &cell, seats.as_mut_slice(), threads, each);
     join_all(&cell, &mut first, seats);
-    cell.close(first).into_value().count
+    Some(cell.close(first).into_value().count)
 }
 
 /// So many seats, split from the first.
-fn split_all<R: Abort>(
-    rt: &R,
+fn split_all(
     alloc: Global,
     cell: &TurnCell<Counter>,
     first: &mut Seat<Counter>,
     many: usize,
-) -> Vec<Seat<Counter>>
+) -> Option<Vec<Seat<Counter>>>
     requires seat { IsSeatOf cell.now first.old }
     requires first { first.old.first ≡ true }
-    ensures first { IsSeatOf cell.now first.new × (first.new.first ≡ true) × (first.new.splits ≡ first.old.splits + vec_len result) × (first.new.joined ≡ first.old.joined) }
-    ensures seats { All (IsSeatOf cell.now) result.items }
+    ensures first { IfSome result (λ seats. IsSeatOf cell.now first.new × (first.new.first ≡ true) × (first.new.splits ≡ first.old.splits + vec_len seats) × (first.new.joined ≡ first.old.joined)) }
+    ensures seats { IfSome result (λ seats. All (IsSeatOf cell.now) seats.items) }
 {
     let mut seats = Vec::new(alloc);
     for _ in 0..many {
         let seat = cell.split(first).unwrap();
         if seats.push(seat).is_err() {
-            panic!(rt; "no memory");
+            return None;
         }
     }
-    seats
+    Some(seats)
 }
 
 /// Each thread takes its turns on a seat of its own.
