@@ -372,7 +372,7 @@ def put_mapnik_data(name, items, folder, shared):
     kinds = {"polygon": "Polygon", "lines": "MultiLineString", "points": "MultiPoint"}
     they = [{"type": "Feature", "properties": {"kind": kind}, "geometry": {"type": kinds[shape], "coordinates": [it + it[:1] for it in turned(at)] if shape == "polygon" else turned(at)}} for kind, shape, at in items]
     with open(file, "w") as out:
-        json.dump({"type": "FeatureCollection", "features": they}, out)
+        out.write(json.dumps({"type": "FeatureCollection", "features": they}))
     if os.path.exists(file + ".index"):
         os.remove(file + ".index")
     if shared:
@@ -561,7 +561,7 @@ def make(name, folder, peer):
     style_said, data_said = ours(features, style)
     for file, said in (("style", style_said), ("data", data_said)):
         with open("%s/%s.json" % (folder, file), "w") as out:
-            json.dump(said, out)
+            out.write(json.dumps(said))
     if "base" in style:
         put_base(folder)
     if peer:
