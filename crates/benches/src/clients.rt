@@ -94,7 +94,7 @@ fn visit_all<S: Client>(alloc: Global, streams: &mut [S], task: Task) -> io::Res
     visit_one(stream, room.as_mut_slice(), wanted.as_slice(), task)
 }
 
-/// What the client of one connection does. All that comes to it are bytes of the long text.
+// What the client of one connection does. All that comes to it are bytes of the long text.
 fn visit_one<S: Client>(
     stream: &mut S,
     room: &mut [u8],
@@ -121,14 +121,12 @@ fn visit_one<S: Client>(
     }
 }
 
-/// What the connection of that number sends.
 fn message_of(number: usize) -> [u8; 64] {
     let mut message = MESSAGE;
     message[0] = (number % 256) as u8;
     message
 }
 
-/// So many times one message on each connection, and then all their echoes.
 fn echoes<S: Client>(streams: &mut [S], rounds: u32) -> io::Result<u64> {
     let mut equal = 0u64;
     let mut echo = [0u8; 64];
@@ -146,7 +144,6 @@ fn echoes<S: Client>(streams: &mut [S], rounds: u32) -> io::Result<u64> {
     Ok(equal)
 }
 
-/// Reads so many bytes, or to the end, and counts those that are wanted.
 fn count_bytes<S: Client>(
     stream: &mut S,
     room: &mut [u8],
@@ -167,7 +164,7 @@ fn count_bytes<S: Client>(
     Ok(came)
 }
 
-/// Whether the front of the room holds so many bytes of the long text, behind those that came.
+// Whether the front of the room holds so many bytes of the long text, behind those that came.
 fn is_wanted(room: &[u8], wanted: &[u8], came: u64, count: usize) -> bool {
     let start = (came % PERIOD as u64) as usize;
     match (room.get(..count), wanted.get(start..)) {

@@ -26,7 +26,6 @@ impl Heard {
         woken: false,
     };
 
-    /// Whether a bell was rung and every connection has gone.
     fn is_over(&self) -> bool {
         self.woken && self.ended.saturating_add(self.lost) == self.opened
     }
@@ -101,7 +100,7 @@ impl<R: Net + Files> Echo<R> {
         }
     }
 
-    /// Puts the echo of a piece behind what was not taken yet; one for which there is no room is left out.
+    // Puts the echo of a piece behind what was not taken yet; one for which there is no room is left out.
     fn answer(&mut self, conn: u32, piece: &[u8]) {
         self.heard.longest = self.heard.longest.max(piece.len());
         if self.large == 0 && self.outbox.has(conn) {
@@ -110,7 +109,6 @@ impl<R: Net + Files> Echo<R> {
         self.offer(conn);
     }
 
-    /// Offers what is left of the large answer, or of the echoes.
     fn offer(&mut self, conn: u32) {
         if self.large > 0 {
             self.offer_large(conn);
@@ -119,7 +117,6 @@ impl<R: Net + Files> Echo<R> {
         }
     }
 
-    /// Offers parts of the large answer while they are taken whole.
     fn offer_large(&mut self, conn: u32) {
         for _ in 0..u64::MAX {
             let start = (self.taken % PERIOD as u64) as usize;

@@ -22,7 +22,6 @@ pub(crate) fn filter_lines<R: Clock + Print>(
     told
 }
 
-/// Comparisons joined by `or`.
 fn long_text(alloc: Global) -> Result<String, AllocError> {
     let mut text = String::from_str(alloc, "[a] = 1")?;
     for _ in 0..90_909 {
@@ -31,7 +30,6 @@ fn long_text(alloc: Global) -> Result<String, AllocError> {
     Ok(text)
 }
 
-/// Reads the text and prints a line: none where it is no filter.
 fn report_reading<R: Clock + Print>(
     rt: &R,
     alloc: Global,
@@ -51,7 +49,7 @@ fn report_reading<R: Clock + Print>(
     }
 }
 
-/// Prints what was read since that moment.
+// Prints what was read since that moment.
 fn tell_reading<R: Clock + Print>(
     rt: &R,
     work: Work,
@@ -65,7 +63,6 @@ fn tell_reading<R: Clock + Print>(
     report_rate(rt, work, bytes, took)
 }
 
-/// Writes the filter and prints a line: false where memory was wanting.
 fn report_writing<R: Clock + Print>(
     rt: &R,
     alloc: Global,
@@ -99,7 +96,6 @@ fn or_parts(e: &Expr) -> usize {
     }
 }
 
-/// Bytes a second, or 0 where the time was too short to be measured.
 fn rate_of(bytes: usize, took: Duration) -> u128 {
     (bytes as u128)
         .saturating_mul(1_000_000_000)

@@ -28,7 +28,6 @@ where
     shown
 }
 
-/// Prints of each address whether it is listened at; at `taken` another listens.
 fn show_each<R>(rt: &R, ports: &mut SocketPorts<R>, taken: &str) -> io::Result<()>
 where
     R: Print + Files + Net<Listener = TcpListener, Stream = TcpStream>,
@@ -103,7 +102,6 @@ pub(crate) fn show_bell<R: Threads + Sync + Clock + Print, P: Ports>(
     println!(rt; "")
 }
 
-/// Rings when the ports wait, and says when.
 fn ring<R: Clock>(rt: &R, bell: &SocketBell) -> io::Result<Instant> {
     thread::sleep(rt, Duration::from_millis(5));
     let rung = Instant::now(rt);
@@ -111,7 +109,6 @@ fn ring<R: Clock>(rt: &R, bell: &SocketBell) -> io::Result<Instant> {
     rung
 }
 
-/// What the ports hear, and when.
 fn hear<R: Clock, P: Ports>(
     rt: &R,
     alloc: Global,

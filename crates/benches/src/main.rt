@@ -43,7 +43,6 @@ fn main(rt: HostRuntime) -> io::Result<ExitCode> {
     Ok(ExitCode::from(told?))
 }
 
-/// Does what the words ask for: the status.
 fn tell<R>(rt: &R, echo: &mut Echo<R>, bell: &SocketBell) -> io::Result<u8>
 where
     R: Env + Alloc<A = Global> + Threads + Wait + Sync + Clock + Print + Eprint + Files,
@@ -63,7 +62,7 @@ where
     Ok(1)
 }
 
-/// The lines of one benchmark, or of all: false where memory was wanting or the ports failed.
+// The lines of one benchmark, or of all: false where memory was wanting or the ports failed.
 fn lines<R>(
     rt: &R,
     alloc: Global,

@@ -10,7 +10,6 @@ use std::io;
 use std::rt::Clock;
 use std::time::Instant;
 
-/// The metatile of that number, of a square of 1,000 by 1,000 in zoom 18.
 fn meta_at(number: u32) -> Meta
     ensures { IsMeta result }
 {
@@ -21,7 +20,6 @@ fn meta_at(number: u32) -> Meta
     }
 }
 
-/// The first tile of that metatile.
 fn tile_at(number: u32) -> Tile
     ensures { IsTile result }
 {
@@ -29,7 +27,6 @@ fn tile_at(number: u32) -> Tile
     Tile { z, x, y }
 }
 
-/// Shows so many metatiles, all of them clean.
 fn show_all(marks: &mut Marks, count: u32) -> Result<(), NoMemory> {
     for number in 0..count {
         marks.reserve_one()?;
@@ -39,7 +36,7 @@ fn show_all(marks: &mut Marks, count: u32) -> Result<(), NoMemory> {
     Ok(())
 }
 
-/// Expires so many tiles of zoom 18, each in another metatile: how many clean ones they met.
+// Expires so many tiles of zoom 18, each in another metatile: how many clean ones they met.
 fn expire_tiles(marks: &mut Marks, tiles: u32) -> u64 {
     let mut clean: u64 = 0;
     for number in 0..tiles {
@@ -49,7 +46,6 @@ fn expire_tiles(marks: &mut Marks, tiles: u32) -> u64 {
     clean
 }
 
-/// Shows: false where memory was wanting.
 fn show_lines<R: Clock + Print>(rt: &R, work: Calls, marks: &mut Marks) -> io::Result<bool> {
     let start = Instant::now(rt)?;
     if show_all(marks, work.shown).is_err() {
@@ -61,7 +57,6 @@ fn show_lines<R: Clock + Print>(rt: &R, work: Calls, marks: &mut Marks) -> io::R
     Ok(true)
 }
 
-/// Expires tile by tile.
 fn expire_lines<R: Clock + Print>(rt: &R, work: Calls, marks: &mut Marks) -> io::Result<()> {
     let start = Instant::now(rt)?;
     let clean = expire_tiles(marks, work.tiles);
@@ -70,7 +65,6 @@ fn expire_lines<R: Clock + Print>(rt: &R, work: Calls, marks: &mut Marks) -> io:
     tell_time(rt, work, took, work.tiles)
 }
 
-/// Expires the world.
 fn world_lines<R: Clock + Print>(rt: &R, work: Calls, marks: &mut Marks) -> io::Result<()> {
     let start = Instant::now(rt)?;
     let clean = marks.expire(Tile { z: 0, x: 0, y: 0 });
@@ -79,7 +73,7 @@ fn world_lines<R: Clock + Print>(rt: &R, work: Calls, marks: &mut Marks) -> io::
     tell_time(rt, work, took, 1)
 }
 
-/// Shows, expires tile by tile, and expires the world twice, each with its line: false where memory was wanting.
+// Shows, expires tile by tile, and expires the world twice, each with its line: false where memory was wanting.
 fn lines<R: Clock + Print>(rt: &R, work: Calls, marks: &mut Marks) -> io::Result<bool> {
     if !show_lines(rt, work, marks)? {
         return Ok(false);

@@ -19,7 +19,6 @@ const LIMITS: Limits = Limits {
 /// How many asks may be open.
 const MOST_ASKS: u32 = 4_096;
 
-/// The metatile of that number in zoom 16.
 fn key(number: u32) -> Key {
     let meta = Meta {
         z: 16,
@@ -29,8 +28,8 @@ fn key(number: u32) -> Key {
     Key { map: 0, meta }
 }
 
-/// A connection asks for the metatile, which is placed in the queue if it stands nowhere. Nothing happens where no
-/// more asks may be open.
+// A connection asks for the metatile, which is placed in the queue if it stands nowhere. Nothing happens where no
+// more asks may be open.
 fn ask(queues: &mut Queues, key: Key, queue: Queue, conn: Conn, ask: u32) {
     if queues.asks() >= MOST_ASKS {
         return;
@@ -44,7 +43,7 @@ fn ask(queues: &mut Queues, key: Key, queue: Queue, conn: Conn, ask: u32) {
     }
 }
 
-/// 64 connections of front 1 ask 64 times each, but for the last asks, for 32 metatiles.
+// 64 connections of front 1 ask 64 times each, but for the last asks, for 32 metatiles.
 fn fill(queues: &mut Queues, asks: u32) {
     for number in queues.asks()..asks {
         let conn = Conn {
@@ -55,7 +54,6 @@ fn fill(queues: &mut Queues, asks: u32) {
     }
 }
 
-/// Takes the next metatile and ends it: whether there was one.
 fn take_one(queues: &mut Queues) -> bool {
     if !queues.can_take() {
         return false;
@@ -67,8 +65,8 @@ fn take_one(queues: &mut Queues) -> bool {
     true
 }
 
-/// So many rounds, each of two asks of front 0 for one metatile, its claim and end, and their replies: how many
-/// replies there were.
+// So many rounds, each of two asks of front 0 for one metatile, its claim and end, and their replies: how many
+// replies there were.
 fn rounds(queues: &mut Queues, count: u32) -> u64 {
     let mut replies = 0u64;
     for number in 0..count {
@@ -87,7 +85,6 @@ fn rounds(queues: &mut Queues, count: u32) -> u64 {
     replies
 }
 
-/// Each of the 64 connections leaves: how many asks they had open.
 fn leave_all(queues: &mut Queues) -> u64 {
     let mut asks = 0u64;
     for number in 0..64 {
@@ -96,7 +93,6 @@ fn leave_all(queues: &mut Queues) -> u64 {
     asks
 }
 
-/// Fills the queues and empties them by leaving, so often.
 fn leave_lines<R: Clock + Print>(rt: &R, work: Calls, queues: &mut Queues) -> io::Result<()> {
     let mut asks = 0u64;
     let mut took = Duration::from_secs(0);
@@ -110,7 +106,6 @@ fn leave_lines<R: Clock + Print>(rt: &R, work: Calls, queues: &mut Queues) -> io
     tell_time(rt, work, took, work.leaves.saturating_mul(64))
 }
 
-/// Takes and ends what waits in the dirty queue: how many metatiles.
 fn empty_dirty(queues: &mut Queues) -> u32 {
     let mut taken = 0u32;
     for _ in 0..LIMITS.dirty {
@@ -121,7 +116,6 @@ fn empty_dirty(queues: &mut Queues) -> u32 {
     taken
 }
 
-/// Fills the dirty queue: how many metatiles it takes.
 fn fill_dirty(queues: &mut Queues) -> u32 {
     let mut placed = 0u32;
     for number in 0..LIMITS.dirty {
@@ -133,7 +127,6 @@ fn fill_dirty(queues: &mut Queues) -> u32 {
     placed
 }
 
-/// Rounds over queues in which all but two asks are open.
 fn round_lines<R: Clock + Print>(rt: &R, work: Calls, queues: &mut Queues) -> io::Result<()> {
     fill(queues, MOST_ASKS - 2);
     let open = queues.asks().saturating_add(2);
@@ -147,7 +140,6 @@ fn round_lines<R: Clock + Print>(rt: &R, work: Calls, queues: &mut Queues) -> io
     tell_time(rt, work, took, work.rounds)
 }
 
-/// A full dirty queue.
 fn dirty_lines<R: Clock + Print>(rt: &R, work: Calls, queues: &mut Queues) -> io::Result<()> {
     let placed = fill_dirty(queues);
     let start = Instant::now(rt)?;
@@ -157,7 +149,6 @@ fn dirty_lines<R: Clock + Print>(rt: &R, work: Calls, queues: &mut Queues) -> io
     tell_time(rt, work, took, taken)
 }
 
-/// Rounds, connections that leave, and a full dirty queue, each with its line.
 fn lines<R: Clock + Print>(rt: &R, work: Calls, queues: &mut Queues) -> io::Result<()> {
     round_lines(rt, work, queues)?;
     leave_lines(rt, work, queues)?;

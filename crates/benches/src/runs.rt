@@ -64,7 +64,6 @@ struct Address<'a> {
     place: &'a str,
 }
 
-/// Shows what clients do at that address.
 fn show_at<R>(
     rt: &R,
     alloc: Global,
@@ -107,7 +106,6 @@ where
     Ok(true)
 }
 
-/// Shows what the clients of one task do: false where the ports fail.
 fn show_task<R>(
     rt: &R,
     alloc: Global,
@@ -130,7 +128,7 @@ where
     Ok(served)
 }
 
-/// Connects the clients of a task and serves them: whether that went in order, and what came to them.
+// Connects the clients of a task and serves them: whether that went in order, and what came to them.
 fn call<R>(
     rt: &R,
     alloc: Global,
@@ -155,8 +153,8 @@ where
     }
 }
 
-/// Prints what came to the clients and what the server heard, and where rates are asked for how much came
-/// a second.
+// Prints what came to the clients and what the server heard, and where rates are asked for how much came
+// a second.
 fn show<R: Print>(
     rt: &R,
     echo: &Echo<R>,
@@ -180,7 +178,7 @@ fn show<R: Print>(
     println!(rt; "")
 }
 
-/// Listens at an address of loopback at which nobody listens, and answers how clients call it.
+// Listens at an address of loopback at which nobody listens, and answers how clients call it.
 fn listen_free<R>(
     rt: &R,
     alloc: Global,
@@ -208,7 +206,7 @@ where
     Ok(None)
 }
 
-/// Serves clients that are connected: whether that went in order, and what came to them.
+// Serves clients that are connected: whether that went in order, and what came to them.
 fn serve<R: Threads, E: Server, S: Client + Send>(
     rt: &R,
     alloc: Global,
@@ -257,7 +255,7 @@ fn connect_unix<R: Files + Net>(
     Ok(streams)
 }
 
-/// So many a second, without the fraction. A time below a millisecond counts as one.
+// So many a second, without the fraction. A time below a millisecond counts as one.
 fn rate_of(many: u64, took: Duration) -> u64 {
     let millis = took
         .as_secs()

@@ -41,7 +41,7 @@ impl Lock {
 }
 
 impl Work {
-    /// How many turns all threads take together.
+    // How many turns all threads take together.
     fn turns(self) -> u64 {
         match self {
             Work::Counts => 4_000,
@@ -50,7 +50,7 @@ impl Work {
     }
 }
 
-/// The lines of one lock, for 1, 2 and 4 threads: false where memory was wanting.
+// The lines of one lock, for 1, 2 and 4 threads: false where memory was wanting.
 fn report_each<R: Threads + Wait + Sync + Clock + Print>(
     rt: &R,
     alloc: Global,
@@ -64,7 +64,7 @@ fn report_each<R: Threads + Wait + Sync + Clock + Print>(
     )
 }
 
-/// Takes the turns with so many threads and prints a line: false where memory was wanting.
+// Takes the turns with so many threads and prints a line: false where memory was wanting.
 fn report<R: Threads + Wait + Sync + Clock + Print>(
     rt: &R,
     alloc: Global,
@@ -95,7 +95,7 @@ fn report<R: Threads + Wait + Sync + Clock + Print>(
     Ok(true)
 }
 
-/// Turns a second, without the fraction. A time below a millisecond counts as one.
+// Turns a second, without the fraction. A time below a millisecond counts as one.
 fn rate_of(turns: u64, took: Duration) -> u64 {
     let millis = took
         .as_secs()

@@ -68,7 +68,6 @@ pub(crate) fn count<R: Threads + Wait + Sync>(
     Some(cell.close(first).into_value().count)
 }
 
-/// So many seats, split from the first.
 fn split_all(
     alloc: Global,
     cell: &TurnCell<Counter>,
@@ -90,7 +89,7 @@ fn split_all(
     Some(seats)
 }
 
-/// Each thread takes its turns on a seat of its own.
+// Each thread takes its turns on a seat of its own.
 fn take_beside<R: Threads + Wait + Sync>(
     rt: &R,
     cell: &TurnCell<Counter>,
@@ -121,7 +120,6 @@ fn take_turns<R: Wait>(rt: &R, cell: &TurnCell<Counter>, seat: &mut Seat<Counter
     }
 }
 
-/// Joins all seats into the first.
 fn join_all(cell: &TurnCell<Counter>, first: &mut Seat<Counter>, mut seats: Vec<Seat<Counter>>)
     requires seat { IsSeatOf cell.now first.old }
     requires first { first.old.first ≡ true }

@@ -26,7 +26,6 @@ pub fn set_run(j: u32, from: u32, end: u32, mask: &mut Mask)
     mask.cover(j, from, end);
 }
 
-// Covers the pixels of row `j` whose centre the shape holds.
 fn mark_row<S: Shape, K: Surface>(shape: &S, w: Window, j: u32, mask: &mut K)
     requires valid { S.valid shape.now }
     requires window { IsWindow w }

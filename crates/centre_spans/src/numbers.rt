@@ -38,7 +38,6 @@ fn short_root(n: u64) -> u64
     n.isqrt()
 }
 
-// The number in the middle of two.
 fn halfway(m: u64, n: u64) -> u64 {
     m.min(n) + apart(m, n) / 2
 }
@@ -51,7 +50,6 @@ fn first_guess(n: u64) -> u64
     (2 << digits) / 3 + (n >> digits) / 3 + 1
 }
 
-// Whether a number is the root, rounded down.
 fn is_root(guess: u64, n: u64) -> bool
     ensures low { result ≡ true → guess * guess ≤ n }
     ensures high { result ≡ true → n < (guess + 1) * (guess + 1) }
@@ -99,7 +97,6 @@ fn guessed(n: u64, inverse: u64) -> u64 {
     ((u128::from(n) * u128::from(inverse)) >> 64) as u64
 }
 
-// Whether a number is the quotient, rounded down.
 #[tactic(auto, using(crate::proofs::Quotients::down_is))]
 fn is_down(guess: u64, n: u64, divisor: u64) -> bool
     requires { 1 ≤ divisor }
@@ -109,7 +106,6 @@ fn is_down(guess: u64, n: u64, divisor: u64) -> bool
     product <= u128::from(n) && u128::from(n) - product < u128::from(divisor)
 }
 
-// Whether a number is the quotient, rounded up.
 #[tactic(auto, using(crate::proofs::Quotients::up_is))]
 fn is_up(guess: u64, n: u64, divisor: u64) -> bool
     requires { 1 ≤ divisor }

@@ -133,7 +133,6 @@ fn hold(text: &str) -> Option<Hold> {
     })
 }
 
-// What happens on the ports of a front.
 fn step<F: Files>(alloc: Global, side: &mut Side, files: &mut F, line: &str) -> Option<()> {
     let (name, rest) = cut(line, ' ')?;
     match name {

@@ -4,7 +4,6 @@ use data_versions::{ApplyFault, LayerView, Snapshot, Update, apply};
 use geo_json::read_update;
 use std::alloc::{AllocError, Global};
 
-// The ids of the features, each with the west side of its box.
 fn tell_layer(alloc: Global, told: &mut String, view: &LayerView<'_>) -> Result<(), AllocError> {
     for place in 0..view.len() {
         match view.get(place) {

@@ -70,7 +70,6 @@ fn told<R: Threads + Wait + Clock + Sync, F: Files, O: Sink>(
     answer(threads, alloc, line, case, files, out)
 }
 
-// The line before the sign; the numbers after it are put behind the calls.
 fn calls_before<'a>(line: &'a str, sign: &str, calls: &mut Vec<u64>) -> Option<&'a str> {
     let Some((before, after)) = line.split_once(sign) else {
         return Some(line);
@@ -81,7 +80,6 @@ fn calls_before<'a>(line: &'a str, sign: &str, calls: &mut Vec<u64>) -> Option<&
     Some(before)
 }
 
-// One command over a store that holds nothing: out, err and the status.
 fn answer<R: Threads + Wait + Clock + Sync, F: Files, O: Sink>(
     threads: &R,
     alloc: Global,
@@ -139,7 +137,6 @@ fn table<R: Threads + Wait + Clock + Sync, F: Files, O: Sink>(
     each_row(threads, alloc, &way, text, files, out)
 }
 
-// Each row of the text.
 fn each_row<R: Threads + Wait + Clock + Sync, F: Files, O: Sink>(
     threads: &R,
     alloc: Global,
@@ -178,7 +175,6 @@ struct Line<'a> {
     text: &'a str,
 }
 
-// The row of a line, if it is one.
 fn one_row<R: Threads + Wait + Clock + Sync, F: Files, O: Sink>(
     threads: &R,
     alloc: Global,
@@ -199,7 +195,6 @@ fn one_row<R: Threads + Wait + Clock + Sync, F: Files, O: Sink>(
     told
 }
 
-// A command of which no call of the store fails.
 fn one_answer<R: Threads + Wait + Clock + Sync, F: Files, O: Sink>(
     threads: &R,
     alloc: Global,
@@ -213,7 +208,6 @@ fn one_answer<R: Threads + Wait + Clock + Sync, F: Files, O: Sink>(
     told
 }
 
-// The row as a file, and those beside it.
 fn files_with<F: Files>(
     alloc: Global,
     way: &Frames<'_>,
@@ -227,7 +221,6 @@ fn files_with<F: Files>(
     MemFiles::new(alloc, held, Vec::new(alloc)).ok()
 }
 
-// The files of these names, with their contents.
 fn held_of<F: Files>(alloc: Global, names: &str, files: &mut F) -> Option<Vec<(Text, Bytes)>> {
     let mut held = Vec::new(alloc);
     for name in names.split(' ') {
@@ -237,7 +230,6 @@ fn held_of<F: Files>(alloc: Global, names: &str, files: &mut F) -> Option<Vec<(T
     Some(held)
 }
 
-// The text with line ends for each `\n` and `\r` in it.
 fn unescaped(alloc: Global, text: &str) -> Option<Bytes> {
     let Some((before, after)) = text.split_once('\\') else {
         return Bytes::of(alloc, text.as_bytes()).ok();
@@ -249,7 +241,6 @@ fn unescaped(alloc: Global, text: &str) -> Option<Bytes> {
     Bytes::of(alloc, made.as_bytes()).ok()
 }
 
-// What stands behind a backslash, up to the next.
 fn push_escaped(made: &mut String, piece: &str) -> Option<()> {
     if let Some(left) = piece.strip_prefix("n") {
         made.push_str("\n").ok()?;

@@ -27,7 +27,6 @@ impl Letters {
     }
 }
 
-// The tree with its nodes in parentheses, each operator before its parts.
 fn say(out: &mut Letters, e: &Expr) {
     match e {
         Expr::Or(parts) => {
@@ -159,7 +158,6 @@ pub(crate) fn filter_told(alloc: Global, text: &str) -> Result<String, AllocErro
     }
 }
 
-// What is written of a filter.
 fn text_of(alloc: Global, e: &Expr) -> Result<String, AllocError> {
     match write(alloc, e) {
         Ok(text) => String::from_str(alloc, text.as_str()),
@@ -175,7 +173,6 @@ pub(crate) fn written_told(alloc: Global, text: &str) -> Result<String, AllocErr
     }
 }
 
-// The tree of what is written of a filter.
 fn tree_of_written(alloc: Global, e: &Expr) -> Result<String, AllocError> {
     let written = text_of(alloc, e)?;
     filter_told(alloc, written.as_str())

@@ -86,7 +86,6 @@ fn play_on<R: Threads + Wait + Clock + Sync, F: Files, O: Sink>(
     told
 }
 
-// The name of what is left, and its store.
 fn what_is_left(left: Left<MemStore>) -> (&'static str, MemStore) {
     match left {
         Left::Store(store) => ("store", store),
@@ -109,7 +108,6 @@ fn store_of(alloc: Global, case: &mut Case) -> Option<MemStore> {
     MemStore::new(alloc, held, puts, gets).ok()
 }
 
-// The steps of a front, if they are in order.
 fn steps_of(alloc: Global, side: &mut Side) -> Option<Vec<PortStep>>
     ensures { IfSome result (λ steps. is_valid [] steps.items ≡ true) }
 {

@@ -15,7 +15,6 @@ fn fault_told(alloc: Global, fault: SavedFault) -> Result<String, AllocError> {
     }
 }
 
-// Whether what was read is written as the text that it was read from.
 fn written_alike(alloc: Global, saved: &Saved, text: &[u8]) -> Option<bool>
     requires { IsSaving saved.now }
 {

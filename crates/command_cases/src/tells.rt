@@ -117,7 +117,6 @@ fn tell_command<O: Sink>(alloc: Global, ended: Ended<'_>, out: &mut O) -> Option
     put_status(alloc, ended, out)
 }
 
-// The bytes, or of many how many they are and their weighted sum.
 fn put_output<O: Sink>(alloc: Global, bytes: &[u8], out: &mut O) -> Option<()> {
     let length = bytes.len();
     if length <= MOST_TOLD {
@@ -143,7 +142,6 @@ fn put_status<O: Sink>(alloc: Global, ended: Ended<'_>, out: &mut O) -> Option<(
     put_text(format!(in alloc; "status {status}\n").ok()?, out)
 }
 
-// What is sure where the ports of a front failed.
 fn tell_sure<O: Sink>(
     alloc: Global,
     manner: Manner,
@@ -156,7 +154,6 @@ fn tell_sure<O: Sink>(
     sure_of(alloc, manner.control, fronts.get(2), &ports.control, out)
 }
 
-// That a front broke, and its connection that is sure.
 fn sure_of<O: Sink>(
     alloc: Global,
     manner: FrontManner,
@@ -176,7 +173,6 @@ fn sure_of<O: Sink>(
     }
 }
 
-// What is told of a front.
 fn tell_front<O: Sink>(
     alloc: Global,
     manner: FrontManner,
@@ -193,7 +189,6 @@ fn tell_front<O: Sink>(
     Some(())
 }
 
-// How a front ended, and what was not taken of its answers.
 fn tell_end<O: Sink>(
     alloc: Global,
     manner: FrontManner,
@@ -232,7 +227,6 @@ fn untaken<O: Sink>(alloc: Global, manner: FrontManner, rest: &Rest, out: &mut O
     put_bytes(alloc, manner, bytes, out)
 }
 
-// A connection, unless it is open and nothing was taken on it.
 fn connection<O: Sink>(
     alloc: Global,
     manner: FrontManner,
@@ -255,7 +249,6 @@ fn put_text<O: Sink>(text: String, out: &mut O) -> Option<()> {
     out.put(text.as_bytes()).ok()
 }
 
-// How many bytes, and the bytes.
 fn put_bytes<O: Sink>(alloc: Global, manner: FrontManner, bytes: &[u8], out: &mut O) -> Option<()> {
     let length = bytes.len();
     put_text(format!(in alloc; " {length}\n").ok()?, out)?;
@@ -266,7 +259,6 @@ fn put_bytes<O: Sink>(alloc: Global, manner: FrontManner, bytes: &[u8], out: &mu
     out.put(b"\n").ok()
 }
 
-// What the store holds of a saved farm.
 fn saved<O: Sink>(alloc: Global, store: &mut MemStore, out: &mut O) -> Option<()> {
     let Ok(Some(saved)) = store.get(alloc, "farm.saved") else {
         return Some(());

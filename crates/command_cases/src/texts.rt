@@ -33,7 +33,6 @@ pub(crate) fn run_texts<F: Files, O: Sink>(
     ran
 }
 
-// The data that filters and updates are told over.
 fn old_data<F: Files>(alloc: Global, files: &mut F) -> Option<Snapshot> {
     let bytes = files.read(alloc, "old.data").ok()?;
     let dataset = read_data(alloc, bytes.as_slice()).ok()?;
@@ -54,7 +53,6 @@ fn each_case<F: Files, O: Sink>(
     Some(())
 }
 
-// A line names a kind of text, the form of a file, and the file.
 fn case<F: Files, O: Sink>(
     alloc: Global,
     line: &str,
@@ -162,7 +160,6 @@ fn with_byte(alloc: Global, bytes: &[u8], place: usize, byte: u8) -> Option<Vec<
     Some(text)
 }
 
-// What a text of the kind is read as, in lines; none where memory runs out.
 fn told(alloc: Global, kind: &str, text: &[u8], old: &Snapshot) -> Option<String> {
     let told = match kind {
         "style" => style_told(alloc, text),
@@ -179,7 +176,6 @@ fn told(alloc: Global, kind: &str, text: &[u8], old: &Snapshot) -> Option<String
     told.ok()
 }
 
-// The same of the kinds whose texts are letters.
 fn letters_told(
     alloc: Global,
     kind: &str,
@@ -196,7 +192,6 @@ fn letters_told(
     }
 }
 
-// The value of a filter of the first feature of the layer `land`.
 fn valued(alloc: Global, text: &str, old: &Snapshot) -> Result<String, AllocError> {
     let Some(land) = old.layer("land") else {
         return String::from_str(alloc, "no layer");
@@ -207,7 +202,6 @@ fn valued(alloc: Global, text: &str, old: &Snapshot) -> Result<String, AllocErro
     }
 }
 
-// Puts the lines as one.
 fn put<O: Sink>(alloc: Global, told: &String, out: &mut O) -> Option<()> {
     let mut all = String::new(alloc);
     for line in told.as_str().lines() {

@@ -23,7 +23,6 @@ pub fn say(response: &mut Vec<u8>, text: &str) -> Disposition
     }
 }
 
-/// `version V`, `no update` or `refused K`.
 fn update_text(alloc: Global, answer: Updated) -> Result<Text, NoMemory>
     ensures { IfOk result (λ t. spec.update_text answer ≡ Some t) }
 {
@@ -34,7 +33,6 @@ fn update_text(alloc: Global, answer: Updated) -> Result<Text, NoMemory>
     }
 }
 
-/// `styled C` or `no restyle`.
 fn restyle_text(alloc: Global, answer: Restyled) -> Result<Text, NoMemory>
     ensures { IfOk result (λ t. t ≡ spec.restyle_text answer) }
 {
@@ -44,7 +42,6 @@ fn restyle_text(alloc: Global, answer: Restyled) -> Result<Text, NoMemory>
     }
 }
 
-/// `version V renewed C`, `no update` or `refused K`.
 fn renew_text(alloc: Global, answer: Renewed) -> Result<Text, NoMemory>
     ensures { IfOk result (λ t. spec.renew_text answer ≡ Some t) }
 {
@@ -66,7 +63,6 @@ fn is_no_memory(fault: ApplyFault) -> bool
     }
 }
 
-/// Whether an update found no memory.
 fn update_starves(answer: Updated) -> bool
     ensures { result ≡ is_none (spec.update_text answer) }
 {
@@ -77,7 +73,6 @@ fn update_starves(answer: Updated) -> bool
     }
 }
 
-/// Whether an update that expires what it reaches found no memory.
 fn renew_starves(answer: Renewed) -> bool
     ensures { result ≡ is_none (spec.renew_text answer) }
 {
@@ -120,7 +115,6 @@ pub fn say_renew(alloc: Global, answer: Renewed, response: &mut Vec<u8>) -> Disp
     }
 }
 
-/// Says a text that was made, if there was memory for it.
 fn say_made(response: &mut Vec<u8>, text: Result<Text, NoMemory>) -> Disposition
     ensures { (words : List ℕ) → IfOk text (λ t. t ≡ words) → Says words response.old.items response.new.items result }
 {

@@ -20,7 +20,6 @@ use front_loop::{Context, Disposition, Farm};
 use plain_world::Tile;
 use std::sync::Wait;
 
-/// The tiles of the list of this number.
 fn list_at(lists: &[TileList], number: u32) -> Option<&[Tile]>
     ensures value { option_copied result ≡ slice_get lists.entry.now number }
     ensures tiles { IfSome result (λ tiles. All IsTile tiles.now) }
@@ -31,7 +30,6 @@ fn list_at(lists: &[TileList], number: u32) -> Option<&[Tile]>
     }
 }
 
-/// One Expire for each tile of the list, if there is one of that number.
 fn do_expire<R: Wait, M: Farm>(
     context: &Context<'_, R, M, Control<'_>>,
     seat: &mut M::Seat,

@@ -23,7 +23,6 @@ pub struct ConnState {
     pub part: Vec<u8>,
 }
 
-/// A line that is too long is answered, and its connection is read no more.
 fn too_long(response: &mut Vec<u8>) -> Disposition
     ensures did { (front : ℕ) (lists : List (List Tile)) (c : ℕ) (mine : List Entry)
         → Did front lists c (line_is.Bad ∷ []) mine mine response.old.items response.new.items (as_done result) }
@@ -36,14 +35,12 @@ fn too_long(response: &mut Vec<u8>) -> Disposition
     }
 }
 
-/// Whether a line that begins so may have another byte.
 fn is_short(part: &Vec<u8>) -> bool
     ensures { result ≡ nat_lt (length part.now.items) most_control_bytes }
 {
     part.as_slice().len() < MOST_CONTROL_BYTES
 }
 
-/// Puts a byte behind a part of a line, if there is memory for it.
 fn keep(part: &mut Vec<u8>, byte: u8) -> Disposition
     ensures { Says (byte ∷ []) part.old.items part.new.items result }
 {
@@ -53,7 +50,6 @@ fn keep(part: &mut Vec<u8>, byte: u8) -> Disposition
     }
 }
 
-/// One byte behind a part of a line.
 fn take_byte<R: Wait, M: Farm>(
     context: &Context<'_, R, M, Control<'_>>,
     seat: &mut M::Seat,

@@ -6,7 +6,6 @@ use crate::acts::Line;
 use line_reading::{cut, small_number, without_return};
 use std::str;
 
-/// The line of this name with these words behind it.
 #[tactic(auto, unfolding(crate::specs::Lines::command_named))]
 fn named(name: &str, words: &str) -> Line
     ensures { result ≡ spec.command_named name.now words.now }
@@ -23,7 +22,6 @@ fn named(name: &str, words: &str) -> Line
     }
 }
 
-/// The line that is one word.
 #[tactic(auto, unfolding(crate::specs::Lines::command_alone))]
 fn alone(word: &str) -> Line
     ensures { result ≡ spec.command_alone word.now }

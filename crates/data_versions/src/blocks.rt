@@ -34,8 +34,8 @@ impl<B: Block> Model for Blocks<B> {
     ghost invariant = { λ b. IsLaid B.features b.starts.items b.count b.list.items };
 }
 
-/// The place of each block's first feature, and how many features there are. More than a `u32` counts are more
-/// than memory holds.
+// The place of each block's first feature, and how many features there are. More than a `u32` counts are more
+// than memory holds.
 fn starts_of<B: Block>(alloc: Global, blocks: &[B]) -> Result<(Vec<u32>, u32), NoMemory>
     ensures { IfOk result (λ r. IsLaid B.features r.0.items r.1 blocks.now) }
 {
@@ -51,7 +51,6 @@ fn starts_of<B: Block>(alloc: Global, blocks: &[B]) -> Result<(Vec<u32>, u32), N
     Ok((starts, count))
 }
 
-/// The last part that starts at the place or before it.
 fn last_start(starts: &[u32], place: u32) -> usize
     requires some { 0 < length starts.now }
     requires first { slice_index starts.now 0 ≤ place }

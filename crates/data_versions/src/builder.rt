@@ -35,7 +35,6 @@ impl Builder {
         }
     }
 
-    /// Makes the chunks a segment, if there are any. No features are loose.
     fn close_segment(&mut self, alloc: Global) -> Result<(), NoMemory>
         requires { self.old.loose.items ≡ [] }
         ensures all { OnOk result (laid self.new.segments.items ≡ built self.old) }
@@ -50,7 +49,6 @@ impl Builder {
         Ok(())
     }
 
-    /// Puts a chunk at the end. No features are loose.
     fn add_chunk(&mut self, alloc: Global, chunk: Chunk) -> Result<(), NoMemory>
         requires { self.old.loose.items ≡ [] }
         ensures all { OnOk result (built self.new ≡ built self.old ++ chunk) }
@@ -66,7 +64,6 @@ impl Builder {
         Ok(())
     }
 
-    /// Makes the loose features a chunk, if there are any.
     fn close_chunk(&mut self, alloc: Global) -> Result<(), NoMemory>
         ensures all { OnOk result (built self.new ≡ built self.old) }
         ensures loose { self.new.loose.items ≡ [] }

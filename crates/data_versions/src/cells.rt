@@ -45,14 +45,13 @@ pub(crate) struct CellBlock {
     pub columns: u64,
 }
 
-/// How many shares of a cell one step from `low` towards `high` is.
 fn scale_of(low: u32, high: u32) -> u64
     ensures { result ≡ scale_of low high }
 {
     SHARES_OF_WAY / (u64::from(high.saturating_sub(low)) + 1)
 }
 
-/// In which of 64 equal parts of a way its point after so many steps lies, counted from 0.
+// In which of 64 equal parts of a way its point after so many steps lies, counted from 0.
 fn part_at(steps: u32, scale: u64) -> u32
     requires { steps * scale < 4398046511104 }
     ensures value { result ≡ steps * scale / 68719476736 }
@@ -61,7 +60,6 @@ fn part_at(steps: u32, scale: u64) -> u32
     (u64::from(steps) * scale / SHARES_OF_CELL) as u32
 }
 
-/// The columns from the first to the last.
 fn columns_between(first: u32, last: u32) -> u64
     requires { last < 64 }
     ensures { (i : ℕ) → first ≤ i → i ≤ last → bit_at result i ≡ 1 }
@@ -124,7 +122,6 @@ impl Grid {
     }
 }
 
-// Adds columns to those of a row.
 fn add_columns(rows: &mut [u64; CELL_ROWS], row: u32, columns: u64)
     requires { row < length rows.old }
     ensures { rows.new ≡ slice_set rows.old row (bit_or (slice_index_or rows.old row 0) columns) }

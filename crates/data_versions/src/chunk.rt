@@ -44,7 +44,6 @@ impl Model for Chunk {
     ghost invariant = { λ c. (length c.features.value.items ≤ 64) × All (IsIn c.extent) c.features.value.items × (c.grid ≡ c.extent.bounds) × IsPlaced c.grid c.cells c.features.value.items };
 }
 
-/// The extent of the features.
 fn extent_over(features: &[SharedFeature]) -> Extent
     ensures { All (IsIn result) features.now }
 {
@@ -55,7 +54,6 @@ fn extent_over(features: &[SharedFeature]) -> Extent
     extent
 }
 
-/// The cells of the box that the features meet.
 fn cells_under(grid: &Grid, features: &[SharedFeature]) -> [u64; CELL_ROWS]
     ensures rows { length result ≡ 64 }
     ensures marked { All (IsMarked grid.now result) features.now }
@@ -67,7 +65,6 @@ fn cells_under(grid: &Grid, features: &[SharedFeature]) -> [u64; CELL_ROWS]
     cells
 }
 
-/// Whether the rectangle holds a point.
 fn is_wide(around: Bounds) -> bool
     ensures { result ≡ true → IsWide around }
 {
@@ -120,8 +117,8 @@ impl Chunk {
         self.features.as_slice()
     }
 
-    /// Whether a cell of the features meets the rectangle, or the rectangle holds no point; if not, no feature is
-    /// near it.
+    // Whether a cell of the features meets the rectangle, or the rectangle holds no point; if not, no feature is
+    // near it.
     fn is_met(&self, around: Bounds) -> bool
         ensures { result ≡ false → All (λ f. is_near around f ≡ false) self.now }
     {

@@ -57,7 +57,7 @@ impl Model for Dataset {
 }
 
 impl Dataset {
-    /// The data of these layers; takes no memory. The caller sees to it that there are at most 64 layers,
+    /// The data of these layers. The caller sees to it that there are at most 64 layers,
     /// that their names have 1 to 64 bytes and are distinct, and that each has at most 1,000,000 features,
     /// of distinct ids.
     pub fn of(layers: Vec<Layer>) -> Dataset
@@ -67,7 +67,7 @@ impl Dataset {
         Dataset { layers }
     }
 
-    /// The layers in order; takes no memory.
+    /// The layers in order.
     pub fn layers(&self) -> &[Layer]
         ensures value { result.now ≡ self.now }
         ensures valid { IsDataset self.now }
@@ -75,7 +75,7 @@ impl Dataset {
         self.layers.as_slice()
     }
 
-    /// The layers as a vector, which is moved out; takes no memory.
+    /// The layers as a vector, which is moved out.
     pub(crate) fn into_layers(self) -> Vec<Layer>
         ensures value { result.items ≡ self }
         ensures valid { IsDataset self }
@@ -103,7 +103,7 @@ impl Model for Update {
 }
 
 impl Update {
-    /// The update of these changes; takes no memory. The caller sees to it that there are at most 1,000,000
+    /// The update of these changes. The caller sees to it that there are at most 1,000,000
     /// changes, that their layers' names have 1 to 64 bytes, and that each has at most 1,000,000 puts.
     pub fn of(changes: Vec<Change>) -> Update
         requires { IsUpdate changes.items }
@@ -112,7 +112,7 @@ impl Update {
         Update { changes }
     }
 
-    /// The changes in order; takes no memory.
+    /// The changes in order.
     pub fn changes(&self) -> &[Change]
         ensures value { result.now ≡ self.now }
         ensures valid { IsUpdate self.now }

@@ -90,7 +90,6 @@ impl<'a> LayerEdit<'a> {
         }
     }
 
-    /// Puts a feature of a new id at the end.
     fn add(&mut self, feature: &'a Feature) -> Result<(), NoMemory>
         requires fresh { has_id (ids_of self.old) feature.now.id ≡ false }
         requires room { length self.old < most_features }
@@ -111,7 +110,7 @@ impl<'a> LayerEdit<'a> {
         }
     }
 
-    /// Puts a feature in place of the one of its id, if there is one.
+    // Puts a feature in place of the one of its id, if there is one.
     fn replace(&mut self, feature: &'a Feature) -> Result<bool, NoMemory>
         ensures found { IfOk result (λ found. found ≡ has_id (ids_of self.old) feature.now.id) }
         ensures done { IfOk result (λ found. found ≡ true → self.new ≡ replaced_by feature.now self.old) }

@@ -20,7 +20,6 @@ pub(crate) fn no_memory(_refused: NoMemory) -> ApplyFault
     ApplyFault::NoMemory
 }
 
-/// Takes the features of the ids out, in order.
 #[tactic(auto, using(crate::proofs::Changes::kept_more, crate::proofs::Changes::missing_more, crate::proofs::Changes::missing_now, crate::proofs::Changes::kept_end, crate::proofs::Changes::missing_end))]
 fn remove_all(edit: &mut LayerEdit<'_>, place: u32, ids: &[u64]) -> Result<(), ApplyFault>
     ensures found { OnOk result (first_missing (ids_of edit.old) ids.now ≡ None) }
@@ -35,7 +34,6 @@ fn remove_all(edit: &mut LayerEdit<'_>, place: u32, ids: &[u64]) -> Result<(), A
     Ok(())
 }
 
-/// Puts the features, in order.
 #[tactic(auto, using(crate::proofs::Changes::puts_more, crate::proofs::Changes::puts_end, crate::proofs::Changes::puts_full))]
 fn put_all<'a>(edit: &mut LayerEdit<'a>, place: u32, puts: &'a [Feature]) -> Result<(), ApplyFault>
     ensures done { OnOk result (edit.new ≡ with_puts puts.now edit.old) }
@@ -53,7 +51,6 @@ fn put_all<'a>(edit: &mut LayerEdit<'a>, place: u32, puts: &'a [Feature]) -> Res
     Ok(())
 }
 
-/// Does the change: the removals in order, and then the puts in order.
 fn make_change<'a>(
     alloc: Global,
     edit: &mut LayerEdit<'a>,
@@ -70,7 +67,6 @@ fn make_change<'a>(
     put_all(edit, place, change.put.as_slice())
 }
 
-/// The edit so far, or one of the layer that begins.
 fn begun_edit<'a>(
     alloc: Global,
     layer: &'a ChunkedLayer,
@@ -85,7 +81,6 @@ fn begun_edit<'a>(
     }
 }
 
-/// A share of the layer with the features of the edit.
 fn share_edited(
     alloc: Global,
     layer: &ChunkedLayer,

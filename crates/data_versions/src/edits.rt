@@ -56,7 +56,6 @@ impl<'a> Edits<'a> {
         Ok(Edits { all, next: 0 })
     }
 
-    /// Whether no edit is left, or the first one is of a greater number.
     fn begin_past(&self, number: u32) -> bool
         ensures { result ≡ begins_past number self.now }
     {
@@ -66,14 +65,12 @@ impl<'a> Edits<'a> {
         }
     }
 
-    /// The edits that are left.
     fn left(&self) -> &[(u32, Option<&'a Feature>)]
         ensures { edits_of result.now ≡ self.now }
     {
         &self.all[self.next..]
     }
 
-    /// Takes the first edit that is left, if it is of the number.
     fn take(&mut self, number: u32) -> Option<Option<&'a Feature>>
         ensures { MatchOption result ((self.new ≡ self.old) × (edits_at number self.old ≡ false)) (λ edit. self.old ≡ (number, option_copied edit) ∷ self.new) }
     {
@@ -87,7 +84,6 @@ impl<'a> Edits<'a> {
     }
 }
 
-/// Adds what stands there by an edit.
 fn add_edit(alloc: Global, edit: Option<&Feature>, builder: &mut Builder) -> Result<(), NoMemory>
     ensures { OnOk result (built builder.new ≡ built builder.old ++ option_to_list (option_copied edit.entry)) }
 {
@@ -118,9 +114,9 @@ trait Editable: Block {
         ensures { OnOk result ((more : List Feature) → built builder.old ++ edited first edits.old (Self.features self.now ++ more) ≡ built builder.new ++ edited (first + length (Self.features self.now)) edits.new more) };
 }
 
-/// Puts the features of the block, of which the first has the number, at the end as they are after the edits. The
-/// block is shared where no edit is of one of its numbers, or of the next one: so the last block is filled up where
-/// new features follow.
+// Puts the features of the block, of which the first has the number, at the end as they are after the edits. The
+// block is shared where no edit is of one of its numbers, or of the next one: so the last block is filled up where
+// new features follow.
 fn edit_block<B: Editable>(
     alloc: Global,
     block: &B,
@@ -137,7 +133,7 @@ fn edit_block<B: Editable>(
     block.edit_into(alloc, first, edits, builder)
 }
 
-/// Puts the features of the blocks, of which the first has the number, at the end as they are after the edits.
+// Puts the features of the blocks, of which the first has the number, at the end as they are after the edits.
 fn edit_blocks<B: Editable>(
     alloc: Global,
     blocks: &Blocks<B>,
@@ -156,7 +152,7 @@ fn edit_blocks<B: Editable>(
     Ok(())
 }
 
-/// Puts the feature of the number at the end, or what stands there by the first edit.
+// Puts the feature of the number at the end, or what stands there by the first edit.
 fn edit_feature(
     alloc: Global,
     feature: &SharedFeature,
@@ -209,7 +205,6 @@ impl Editable for Segment {
     }
 }
 
-/// Adds what stands by the edits that are left.
 fn add_rest(alloc: Global, edits: &Edits<'_>, builder: &mut Builder) -> Result<(), NoMemory>
     ensures { OnOk result (built builder.new ≡ built builder.old ++ standing_edits edits.now) }
 {

@@ -28,8 +28,8 @@ const LOOKS_INTO_SEGMENT: usize = 2_048;
 /// A table of all ids takes for each feature of the layer about as long as so many looks at a segment.
 const LOOKS_OF_TABLE: usize = 64;
 
-/// About how many looks at a segment one id takes, where a segment whose ids do not begin after those of the
-/// segments before it has to be searched.
+// About how many looks at a segment one id takes, where a segment whose ids do not begin after those of the
+// segments before it has to be searched.
 fn looks_for_one(segments: &[Segment]) -> usize {
     let mut greatest = 0;
     let mut looks = LOOKS_OF_SEARCH.saturating_add(segments.len() / 2);
@@ -68,7 +68,6 @@ impl<'a> Model for LayerFinder<'a> {
     ghost invariant = { λ f. IsLayer f.layer.now × IfSome f.table (λ t. IsIdTable t.items f.layer.now.features) };
 }
 
-/// Sorts the pairs by their ids.
 fn sort_ids(pairs: &mut Vec<(u64, u32)>)
     ensures permutation { IsPermutation pairs.old.items pairs.new.items }
     ensures sorted { IsNonDecreasingBy (λ p. p.0) pairs.new.items }
@@ -76,7 +75,6 @@ fn sort_ids(pairs: &mut Vec<(u64, u32)>)
     pairs.sort_unstable_by_key(|pair| pair.0);
 }
 
-/// The table of the layer's ids.
 fn id_table(alloc: Global, layer: &ChunkedLayer) -> Result<Vec<(u64, u32)>, NoMemory>
     requires { IsLayer layer.now }
     ensures { IfOk result (λ table. IsIdTable table.items layer.now.features) }
@@ -87,7 +85,6 @@ fn id_table(alloc: Global, layer: &ChunkedLayer) -> Result<Vec<(u64, u32)>, NoMe
     Ok(pairs)
 }
 
-/// The place that the table has for the id.
 fn place_in(table: &[(u64, u32)], id: u64) -> Option<u32>
     ensures { (features : List Feature) → IsIdTable table.now features → result ≡ place_of features id }
 {
@@ -118,7 +115,6 @@ impl<'a> LayerFinder<'a> {
         self.layer.name() == name
     }
 
-    /// About how many looks one id takes, which is reckoned once.
     fn looks(&mut self) -> usize
         ensures { self.new ≡ self.old }
     {
@@ -147,7 +143,7 @@ impl<'a> LayerFinder<'a> {
         Ok(())
     }
 
-    /// The place of the feature with the id, or none exactly where no feature has it. Takes no memory.
+    /// The place of the feature with the id, or none exactly where no feature has it.
     pub fn place_of(&self, id: u64) -> Option<u32>
         ensures { result ≡ place_of self.now.features id }
     {
@@ -157,7 +153,7 @@ impl<'a> LayerFinder<'a> {
         }
     }
 
-    /// The feature at the place, or none exactly where there is none. Takes no memory.
+    /// The feature at the place, or none exactly where there is none.
     pub fn get(&self, i: u32) -> Option<&'a Feature>
         ensures { option_copied result ≡ slice_get self.now.features i }
     {

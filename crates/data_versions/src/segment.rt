@@ -34,7 +34,6 @@ impl Model for Segment {
     ghost invariant = { λ s. All (IsIn s.extent) s.chunks.value × (s.count ≡ length s.chunks.value) };
 }
 
-/// The extent of the chunks' features.
 fn extent_over(chunks: &[Chunk]) -> Extent
     ensures { All (IsIn result) (laid chunks.now) }
 {

@@ -29,7 +29,6 @@ impl Model for SharedFeature {
     ghost invariant = { λ s. (s.id ≡ s.feature.value.id) × (s.bounds ≡ box_of s.feature.value) × IsWide s.bounds };
 }
 
-/// The feature's box, which holds a point.
 fn wide_box(feature: &Feature) -> Bounds
     ensures value { result ≡ box_of feature.now }
     ensures wide { IsWide result }

@@ -34,7 +34,6 @@ impl<'a> Model for Slots<'a> {
     ghost invariant = { λ s. IsPutWithin s.put.entries s.layer.now.features s.count };
 }
 
-/// The feature's id, if there is one.
 fn id_of(feature: Option<&Feature>) -> Option<u64>
     ensures { result ≡ slot_id (option_copied feature.entry) }
 {

@@ -41,7 +41,6 @@ impl Model for Snapshot {
     ghost invariant = { λ s. IsDataset (shared_layers s.layers.value.items) };
 }
 
-/// The segments of the features.
 fn segments_of(alloc: Global, features: Vec<Feature>) -> Result<Vec<Segment>, NoMemory>
     ensures { IfOk result (λ segments. laid segments.items ≡ features.items) }
 {
@@ -52,7 +51,6 @@ fn segments_of(alloc: Global, features: Vec<Feature>) -> Result<Vec<Segment>, No
     builder.into_segments(alloc)
 }
 
-/// Puts the features of the layer into segments, and shares it.
 fn share_layer(alloc: Global, layer: Layer) -> Result<Arc<ChunkedLayer>, NoMemory>
     ensures { IfOk result (λ shared. arc_value shared ≡ layer) }
 {
@@ -62,7 +60,6 @@ fn share_layer(alloc: Global, layer: Layer) -> Result<Arc<ChunkedLayer>, NoMemor
     Ok(Arc::new(alloc, chunked)?)
 }
 
-/// Puts the features of each layer of the data into segments, and shares it.
 fn share_layers(alloc: Global, layers: Vec<Layer>) -> Result<Vec<Arc<ChunkedLayer>>, NoMemory>
     ensures { IfOk result (λ shared. shared_layers shared.items ≡ layers.items) }
 {
@@ -109,7 +106,7 @@ impl Snapshot {
         })
     }
 
-    /// The layer of the name, or none exactly where no layer has it; takes no memory.
+    /// The layer of the name, or none exactly where no layer has it.
     pub fn layer(&self, name: &str) -> Option<LayerView<'_>>
         ensures { result ≡ features_named self.now name.now }
     {
@@ -128,7 +125,6 @@ impl Snapshot {
     }
 }
 
-/// A finder for each layer.
 fn finders_of<'a>(
     alloc: Global,
     shared: &'a [Arc<ChunkedLayer>],
@@ -144,7 +140,6 @@ fn finders_of<'a>(
     Ok(finders)
 }
 
-/// The layer of the name among those that are shared.
 fn find_layer<'a>(shared: &'a [Arc<ChunkedLayer>], name: &str) -> Option<&'a ChunkedLayer>
     ensures { option_copied result ≡ layer_named (shared_layers shared.now) name.now }
 {

@@ -13,7 +13,6 @@ use farm_base::{ApplyFault, NoMemory};
 use std::alloc::Global;
 use std::sync::Arc;
 
-/// An edited layer for each layer.
 fn edited_layers<'a>(
     alloc: Global,
     shared: &'a [Arc<ChunkedLayer>],
@@ -28,7 +27,6 @@ fn edited_layers<'a>(
     Ok(edited_layers)
 }
 
-/// The place of the layer of the name.
 fn place_named(edited_layers: &[EditedLayer<'_>], name: &str) -> Option<usize>
     ensures { result ≡ position (λ l. bytes_eq l.name name.now) edited_layers.now }
 {
@@ -37,7 +35,6 @@ fn place_named(edited_layers: &[EditedLayer<'_>], name: &str) -> Option<usize>
         .position(|edited| edited.is_named(name))
 }
 
-/// Does the change, which stands at this place of its update.
 #[tactic(auto, using(crate::proofs::Named::named_place, crate::proofs::Named::changed_place, crate::proofs::Named::unnamed))]
 fn change_one<'a>(
     alloc: Global,
@@ -58,7 +55,6 @@ fn change_one<'a>(
     }
 }
 
-/// Does the changes in order.
 #[tactic(auto, using(crate::proofs::Named::changed_more, crate::proofs::Named::changed_stops, crate::proofs::Named::changed_end, crate::proofs::Named::names_changed))]
 fn change_all<'a>(
     alloc: Global,
@@ -76,7 +72,6 @@ fn change_all<'a>(
     Ok(())
 }
 
-/// The layers as they are after their edits.
 fn finish(
     alloc: Global,
     edited_layers: &[EditedLayer<'_>],

@@ -10,7 +10,7 @@ use geo_model::{Bounds, Feature};
 use std::marker::Model;
 
 /// What is left of a walk over the features of a layer near a rectangle: those of some that stand side by side, and
-/// those from a place on. Contracts see it as the list of the features to come. Its calls take no memory.
+/// those from a place on. Contracts see it as the list of the features to come.
 #[derive(Drop)]
 pub struct NearFeatures<'a> {
     around: Bounds,

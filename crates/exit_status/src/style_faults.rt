@@ -44,7 +44,6 @@ fn part_text(part: Part) -> &'static str
     }
 }
 
-// A fault's number and the object that it stands in.
 fn text_at(alloc: Global, fault: &str, at: At) -> Result<Text, NoMemory>
     ensures { IfOk result (λ t. t ≡ fault.now ++ spec.at_text at) }
 {

@@ -8,7 +8,6 @@ ghost use Rattle.expiry_lists.specs.Boxes.{Holds, is_near, comes_near};
 use geo_model::Bounds;
 use plain_world::Square;
 
-/// The side of a square of that zoom, in units.
 #[tactic(auto, using(crate::proofs::BoxLaws::side_most))]
 fn side_at(z: u32) -> u64
     requires { z ≤ 18 }
@@ -29,8 +28,8 @@ pub fn margin_of(size: u32, z: u32) -> u64
     64 * side_at(z) / u64::from(size)
 }
 
-/// Whether the stretch from `least` to `greatest`, widened by the margin on both sides, holds a number of the
-/// stretch of so many units that stands at that place.
+// Whether the stretch from `least` to `greatest`, widened by the margin on both sides, holds a number of the
+// stretch of so many units that stands at that place.
 fn is_near(least: u32, greatest: u32, place: u32, units: u64, margin: u64) -> bool
     requires place { place < 2 ^ 18 }
     requires units { units ≤ 2 ^ 30 }

@@ -10,7 +10,7 @@ use farm_base::NoMemory;
 use farm_history::{Kept, Key};
 use std::alloc::Global;
 
-/// What is kept of a key: its version, where it is clean.
+// What is kept of a key: its version, where it is clean.
 fn kept_at(key: Key, node: Node) -> Option<Kept>
     ensures { result ≡ kept_at key node.mark }
 {

@@ -33,7 +33,6 @@ impl Model for TileList {
     ghost invariant = { λ l. AreListed l.tiles.items };
 }
 
-/// What stands before the first slash and behind it.
 fn word(text: &str, fault: ListFault) -> Result<(&str, &str), ListFault>
     ensures { seen (λ p. (p.0.now, p.1.now)) result ≡ spec.list_word fault text.entry.now }
 {
@@ -46,7 +45,6 @@ fn number(word: &str, fault: ListFault) -> Result<u32, ListFault>
     small_number(word).ok_or(fault)
 }
 
-/// The tile of a line `z/x/y`.
 #[tactic(auto, unfolding(crate::specs::Lists::list_tile))]
 fn tile_in(text: &str, fault: ListFault) -> Result<Tile, ListFault>
     ensures value { result ≡ spec.list_tile fault text.now }
@@ -60,7 +58,6 @@ fn tile_in(text: &str, fault: ListFault) -> Result<Tile, ListFault>
     tile(z, x, y).ok_or(fault)
 }
 
-/// The tile of a line; nothing where the line is empty.
 #[tactic(auto, unfolding(crate::specs::Lists::list_line))]
 fn read_line(line: &[u8], fault: ListFault) -> Result<Option<Tile>, ListFault>
     ensures value { result ≡ spec.list_line fault line.now }

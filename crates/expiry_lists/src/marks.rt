@@ -229,21 +229,18 @@ impl Marks {
     }
 }
 
-/// The bit of the map, where it is clean.
 fn clean_bit(map: u32, clean: bool) -> u64
     ensures { clean ≡ true → has_bit result (map % 64) ≡ true }
 {
     if clean { 1 << (map % 64) } else { 0 }
 }
 
-/// Whether the number is in the list.
 fn lists(maps: &[u32], map: u32) -> bool
     ensures { result ≡ list_any (λ m. m == map) maps.now }
 {
     maps.iter().any(|m| *m == map)
 }
 
-/// Adds a number to the list, where it is not there.
 fn add_group(maps: &mut Vec<u32>, map: u32)
     requires { list_any (λ m. m == map) maps.old.items ≡ false
         → vec_len maps.old < vec_capacity maps.old }

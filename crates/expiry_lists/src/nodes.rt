@@ -56,7 +56,7 @@ pub fn mark_one_dirty(nodes: &mut Nodes, key: Key) -> u64
     was.clean_count()
 }
 
-/// Makes the marks at a place dirty of the maps whose bits are in the word, and counts what was clean.
+// Makes the marks at a place dirty of the maps whose bits are in the word, and counts what was clean.
 fn mark_bits_dirty(nodes: &mut Nodes, place: Key, word: u64) -> u64
     requires group { place.map < 2 ^ 26 }
     requires tree { IsTree nodes.old.entries nodes.old.spots }
@@ -71,7 +71,7 @@ fn mark_bits_dirty(nodes: &mut Nodes, place: Key, word: u64) -> u64
     count
 }
 
-/// Makes the mark at a place dirty of the map with that bit, where it is in the word, and counts what was clean: 0 or 1.
+// Makes the mark at a place dirty of the map with that bit, where it is in the word, and counts what was clean: 0 or 1.
 fn mark_bit_dirty(nodes: &mut Nodes, place: Key, word: u64, bit: u32) -> u64
     requires group { place.map < 2 ^ 26 }
     requires bit { bit < 64 }
@@ -124,7 +124,6 @@ pub fn settle_place(nodes: &mut Nodes, place: Key, mask: u64) -> u64
     count
 }
 
-/// Takes the live bits of the mask from a place.
 fn hush(nodes: &mut Nodes, place: Key, mask: u64)
     requires tree { IsTree nodes.old.entries nodes.old.spots }
     requires dirty { (k : Key) → at_bits place mask k ≡ true → is_clean_at nodes.old.entries k ≡ false }
@@ -161,7 +160,6 @@ pub fn settle_all(nodes: &mut Nodes) -> u64
 }
 
 impl Node {
-    /// The node with its mark, if any, dirty.
     fn dirtied(self) -> Node
         ensures { result ≡ record { mark = option_map (touched_by true) self.mark } }
     {
@@ -172,7 +170,6 @@ impl Node {
         Node { mark }
     }
 
-    /// 1 where the mark is clean, else 0.
     fn clean_count(self) -> u64
         ensures { result ≡ (if is_clean self.mark then 1 else 0) }
     {

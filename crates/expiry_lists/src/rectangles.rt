@@ -14,7 +14,7 @@ use farm_history::Key;
 use geo_model::Bounds;
 use merc_fixed::meta_square;
 
-/// Whether the key is of that map and zoom, and the box holds a point of its square.
+// Whether the key is of that map and zoom, and the box holds a point of its square.
 fn is_in_box(key: Key, map: u32, z: u32, b: Bounds) -> bool
     requires { IsMeta key.meta }
     ensures { result ≡ is_in_box map z b key }
@@ -23,7 +23,7 @@ fn is_in_box(key: Key, map: u32, z: u32, b: Bounds) -> bool
     map == key.map && key.meta.z == z && near
 }
 
-/// Makes the key dirty where it is of that map and zoom and in the box, and counts what was clean: 0 or 1.
+// Makes the key dirty where it is of that map and zoom and in the box, and counts what was clean: 0 or 1.
 fn mark_key_dirty(nodes: &mut Nodes, key: Key, map: u32, z: u32, b: Bounds) -> u64
     requires meta { IsMeta key.meta }
     requires tree { IsTree nodes.old.entries nodes.old.spots }

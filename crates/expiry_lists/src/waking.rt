@@ -12,7 +12,6 @@ use crate::table::Nodes;
 use crate::walks::{ROOT_ZOOM, parent};
 use farm_history::{Key, Mark};
 
-/// Whether the place has a spot where all maps of the mask are live.
 fn is_awake(nodes: &Nodes, place: Key, mask: u64) -> bool
     ensures { result ≡ (has_spot nodes.now.spots place
         && (bit_and (live_word (spot_of nodes.now.spots place)) mask == mask)) }
@@ -23,7 +22,7 @@ fn is_awake(nodes: &Nodes, place: Key, mask: u64) -> bool
     }
 }
 
-/// Gives the place a spot, where it has none, and makes the maps of the mask live there.
+// Gives the place a spot, where it has none, and makes the maps of the mask live there.
 fn wake_one(nodes: &mut Nodes, place: Key, mask: u64)
     requires tree { IsTree nodes.old.entries nodes.old.spots }
     requires meta { IsMeta place.meta }

@@ -23,7 +23,6 @@ pub const ROOT_ZOOM: u32 = 3;
 /// The last zoom.
 const LAST_ZOOM: u32 = 18;
 
-/// The key of quarter `j` of the key's square, by rows.
 fn child(key: Key, j: u32) -> Key
     requires node { IsNode key }
     requires quarter { j < 4 }
@@ -102,9 +101,9 @@ pub fn mark_above_dirty(nodes: &mut Nodes, low: Key, mask: u64) -> u64
     above + mark_place_dirty(nodes, up, mask)
 }
 
-/// Makes dirty the keys at or below the key that some of the boxes is near, each at its own zoom, and counts
-/// what was clean. It goes down over live nodes alone that some box is near, with the boxes that are: what no
-/// box is near has nothing below it that one is. The boxes end in another order.
+// Makes dirty the keys at or below the key that some of the boxes is near, each at its own zoom, and counts
+// what was clean. It goes down over live nodes alone that some box is near, with the boxes that are: what no
+// box is near has nothing below it that one is. The boxes end in another order.
 #[cycle(boxes)]
 fn mark_boxes_dirty(nodes: &mut Nodes, top: Key, mask: u64, size: u32, boxes: &mut [Bounds]) -> u64
     requires node { IsNode top }
@@ -126,7 +125,6 @@ fn mark_boxes_dirty(nodes: &mut Nodes, top: Key, mask: u64, size: u32, boxes: &m
     mark_near_dirty(nodes, top, mask, size, &mut boxes[..near])
 }
 
-/// The same for a key that some of the boxes is near.
 #[cycle(boxes)]
 fn mark_near_dirty(nodes: &mut Nodes, top: Key, mask: u64, size: u32, boxes: &mut [Bounds]) -> u64
     requires node { IsNode top }
@@ -149,7 +147,6 @@ fn mark_near_dirty(nodes: &mut Nodes, top: Key, mask: u64, size: u32, boxes: &mu
     first + second + third + fourth + own
 }
 
-/// The map's key of that zoom, up to 3, whose square is the whole world.
 fn world_key(map: u32, z: u32) -> Key
     ensures { result ≡ world_key map z }
 {
@@ -157,7 +154,6 @@ fn world_key(map: u32, z: u32) -> Key
     Key { map, meta }
 }
 
-/// The map's key whose square is the tile's, or the smallest that holds it.
 fn key_over(map: u32, t: Tile) -> Key
     requires { IsTile t }
     ensures value { result ≡ key_over map t }
@@ -179,7 +175,7 @@ fn key_over(map: u32, t: Tile) -> Key
     Key { map, meta }
 }
 
-/// Makes the keys of zooms 0, 1 and 2 dirty of the maps of the mask, and counts what was clean.
+// Makes the keys of zooms 0, 1 and 2 dirty of the maps of the mask, and counts what was clean.
 fn mark_flat_dirty(nodes: &mut Nodes, group: u32, mask: u64) -> u64
     requires { IsTree nodes.old.entries nodes.old.spots }
     ensures walks { Walks (λ k. is_flat group (place_of k) && has_bit mask (bit_of k)) nodes.old nodes.new result }
@@ -191,7 +187,7 @@ fn mark_flat_dirty(nodes: &mut Nodes, group: u32, mask: u64) -> u64
     first + second + third
 }
 
-/// Makes the group's keys dirty whose squares overlap the tile's, and counts what was clean.
+// Makes the group's keys dirty whose squares overlap the tile's, and counts what was clean.
 fn mark_tile_dirty(nodes: &mut Nodes, group: u32, t: Tile) -> u64
     requires tile { IsTile t }
     requires tree { IsTree nodes.old.entries nodes.old.spots }
@@ -231,8 +227,8 @@ pub fn mark_map_dirty(nodes: &mut Nodes, map: u32) -> u64
     flat + below
 }
 
-/// Makes the keys of that zoom, up to 2, dirty of the maps of the mask where some of the boxes is near the world, and
-/// counts what was clean.
+// Makes the keys of that zoom, up to 2, dirty of the maps of the mask where some of the boxes is near the world, and
+// counts what was clean.
 fn mark_world_dirty(nodes: &mut Nodes, at: World, z: u32, size: u32, boxes: &[Bounds]) -> u64
     requires zoom { z ≤ 2 }
     requires size { IsTileSize size }

@@ -4,7 +4,7 @@
 /// A bell that wakes a front which waits for events. It promises nothing: who waits has to look for
 /// work whatever woke it.
 pub trait Bell {
-    /// Wakes the front; takes no memory.
+    /// Wakes the front.
     fn ring(&self);
 }
 

@@ -23,7 +23,7 @@ pub struct DiskFiles<R> {
 }
 
 impl<R> DiskFiles<R> {
-    /// The files that this runtime reaches; takes no memory.
+    /// The files that this runtime reaches.
     pub fn new(rt: R) -> DiskFiles<R>
         ensures { result.faults ≡ 0 }
     {
@@ -97,7 +97,7 @@ pub struct OutSink<W> {
 }
 
 impl<W> OutSink<W> {
-    /// The sink over this stream; takes no memory.
+    /// The sink over this stream.
     pub fn new(inner: W) -> OutSink<W>
         ensures { result.faults ≡ 0 }
     {

@@ -106,7 +106,7 @@ impl MemFiles {
         })
     }
 
-    /// The reads that failed so far, in order; takes no memory.
+    /// The reads that failed so far, in order.
     pub fn failed(&self) -> &[FailedCall]
         ensures { result.now ≡ self.now.failed }
     {
@@ -114,7 +114,6 @@ impl MemFiles {
     }
 }
 
-// The content of the first pair of this name.
 fn held<'a>(files: &'a [(Text, Bytes)], name: &str) -> Option<&'a Bytes>
     ensures { option_map (λ b. b.now) result ≡ content_of files.entry.now name.now }
 {
@@ -128,7 +127,6 @@ pub(crate) fn is_to_fail(numbers: &[u64], n: u64) -> bool
 }
 
 impl MemFiles {
-    // Notes a failed read; after want of memory all is as before.
     fn note(&mut self, alloc: Global, name: &str) -> Result<(), NoMemory>
         ensures done { OnOk result (self.new ≡ record self.old { calls = next_count self.old.calls; failed = self.old.failed ++ failed_read name.now ∷ [] }) }
         ensures refused { OnErr result (self.new ≡ self.old) }

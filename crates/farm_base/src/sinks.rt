@@ -22,7 +22,7 @@ pub trait Sink {
     /// falls, and stands still at its last value, `2^64 - 1`.
     ghost state: { Self → Outside (List ℕ) };
 
-    /// Puts a piece; takes no memory. After Ok the whole piece was taken, after Failed some front of it,
+    /// Puts a piece. After Ok the whole piece was taken, after Failed some front of it,
     /// and Failed comes only where the count of faults rose in this call.
     fn put(&mut self, piece: &[u8]) -> Result<(), SinkFault>
         ensures { Puts (state self.old) (state self.new) piece.now result };
@@ -64,7 +64,7 @@ impl MemSink {
         })
     }
 
-    /// The bytes that the sink holds; takes no memory.
+    /// The bytes that the sink holds.
     pub fn bytes(&self) -> &[u8]
         ensures { result.now ≡ self.now.bytes }
     {

@@ -40,7 +40,7 @@ impl Text {
         Ok(Text { kept })
     }
 
-    /// The text of a string, which is moved in; takes no memory.
+    /// The text of a string, which is moved in.
     pub fn from_string(text: String) -> Text
         ensures { result ≡ string_bytes text }
     {
@@ -49,7 +49,7 @@ impl Text {
         }
     }
 
-    /// The text itself; takes no memory.
+    /// The text itself.
     pub fn as_str(&self) -> &str
         ensures { result.now ≡ self.now }
     {
@@ -84,14 +84,14 @@ impl Bytes {
         })
     }
 
-    /// The bytes of a vector, which is moved in; takes no memory.
+    /// The bytes of a vector, which is moved in.
     pub fn from_vec(bytes: Vec<u8>) -> Bytes
         ensures { result ≡ bytes.items }
     {
         Bytes { inner: bytes }
     }
 
-    /// The bytes themselves; takes no memory.
+    /// The bytes themselves.
     pub fn as_slice(&self) -> &[u8]
         ensures { result.now ≡ self.now }
     {

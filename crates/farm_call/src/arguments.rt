@@ -83,7 +83,6 @@ pub fn program<
     }
 }
 
-// The words after the program's name.
 fn words<R: Env + Alloc<A = Global>>(rt: &R) -> io::Result<Vec<String>> {
     let mut words = Vec::new(rt.alloc());
     for word in env::args(rt)?.skip(1) {

@@ -11,7 +11,7 @@ use farm_core::{Farm, FarmPlan};
 use std::alloc::Global;
 use tile_store::{StoreFault, TileStore};
 
-/// Why a call ends in which the store did not do what it was asked.
+// Why a call ends in which the store did not do what it was asked.
 fn stop_of(fault: StoreFault) -> Stop
     ensures { result ≡ steps.stop_of fault }
 {
@@ -21,7 +21,7 @@ fn stop_of(fault: StoreFault) -> Stop
     }
 }
 
-/// Puts no bytes where a saved farm stands, so that a run that does not end in order leaves none.
+// Puts no bytes where a saved farm stands, so that a run that does not end in order leaves none.
 fn empty_saved<D: TileStore>(alloc: Global, farm: Farm<D>) -> Result<Farm<D>, (D, Stop)>
     ensures { Empties D.state farm result }
 {
@@ -32,7 +32,6 @@ fn empty_saved<D: TileStore>(alloc: Global, farm: Farm<D>) -> Result<Farm<D>, (D
     }
 }
 
-/// A farm of the plan over the store that begins by what is saved there.
 fn begin_saved<D: TileStore>(alloc: Global, plan: FarmPlan, store: D) -> Result<Farm<D>, (D, Stop)>
     requires { IsPlan plan }
     ensures { Begins D.state plan true store result }

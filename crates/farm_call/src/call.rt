@@ -128,7 +128,6 @@ fn done_and_told<
     }
 }
 
-// An end with the store left.
 fn stored<D: TileStore>(alloc: Global, end: Result<(), Stop>, store: D) -> Done<D>
     ensures end { result.end ≡ end }
     ensures left { result.left ≡ Store store }
@@ -141,7 +140,6 @@ fn stored<D: TileStore>(alloc: Global, end: Result<(), Stop>, store: D) -> Done<
     }
 }
 
-// Does what the words ask for.
 fn command<
     R: Threads + Wait + Clock + Sync,
     F: Files,
@@ -179,7 +177,6 @@ fn command<
     }
 }
 
-// Does the command that the words spell.
 fn run<
     R: Threads + Wait + Clock + Sync,
     F: Files,

@@ -1,4 +1,4 @@
-//! The line of a farm's counts, which takes no memory.
+//! The line of a farm's counts.
 ghost use Rattle.std.specs.Prelude.{◌≡◌, ◌≤◌, ◌+◌, ◌++◌, length};
 ghost use Rattle.std.specs.Fmt.{decimal};
 ghost use Rattle.arrayvec.specs.ArrayString.{array_string_len};
@@ -11,7 +11,6 @@ use farm_base::Sink;
 use farm_plan::Tally;
 use itoa::Buffer;
 
-/// Appends a word and a number.
 fn put_number(out: &mut ArrayString<128>, word: &str, number: u64)
     requires room { array_string_len out.old + length word.now + 20 ≤ 128 }
     ensures bytes { out.new.bytes ≡ out.old.bytes ++ word.now ++ decimal number }
@@ -22,7 +21,6 @@ fn put_number(out: &mut ArrayString<128>, word: &str, number: u64)
     out.push_str(digits.format(number));
 }
 
-/// The line `asks A done D stored S version V`.
 fn tally_line(tally: Tally) -> ArrayString<128>
     ensures { result.bytes ≡ tally_line tally }
 {

@@ -15,7 +15,6 @@ use port_events::FrontDone;
 use std::alloc::Global;
 use tile_store::TileStore;
 
-/// Appends what a front answered, in the room that was made for it.
 fn add(all: &mut Vec<FrontDone>, done: FrontDone)
     requires room { vec_len all.old < vec_capacity all.old }
     ensures items { all.new.items ≡ all.old.items ++ done ∷ [] }
@@ -26,7 +25,6 @@ fn add(all: &mut Vec<FrontDone>, done: FrontDone)
     };
 }
 
-/// What the fronts answered, by their numbers, in the room that was made for it.
 fn in_order(room: Vec<FrontDone>, fronts: EachFront<FrontDone>) -> Vec<FrontDone>
     requires empty { room.items ≡ [] }
     requires room { 3 ≤ vec_capacity room }
@@ -44,7 +42,6 @@ fn in_order(room: Vec<FrontDone>, fronts: EachFront<FrontDone>) -> Vec<FrontDone
     all
 }
 
-/// Whether the run itself or a worker met that all turns were drawn.
 fn is_worn_out(worn: bool, stopped: bool, tally: &Option<Tally>) -> bool
     ensures { result ≡ (worn || not stopped || is_none tally.now) }
 {

@@ -6,7 +6,7 @@ ghost use Rattle.farm_call.specs.Listens as spec;
 use exit_status::Stop;
 use port_events::{PortFault, Ports, ThreePorts};
 
-/// Why a call ends in which ports do not listen.
+// Why a call ends in which ports do not listen.
 fn stop_of(fault: PortFault) -> Stop
     ensures { result ≡ spec.stop_of fault }
 {
@@ -16,7 +16,6 @@ fn stop_of(fault: PortFault) -> Stop
     }
 }
 
-/// Listens at the address.
 fn listen<P: Ports>(ports: &mut P, address: &str) -> Result<(), Stop>
     ensures { ListenEnds address.now (P.state ports.old) (P.state ports.new) result }
 {

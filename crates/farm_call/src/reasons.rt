@@ -6,21 +6,20 @@ ghost use Rattle.farm_call.specs.Endings as spec;
 use exit_status::Stop;
 use port_events::FrontEnd;
 
-/// Whether a front ended since all turns were drawn.
+// Whether a front ended since all turns were drawn.
 fn any_worn(ends: &[FrontEnd]) -> bool
     ensures { result ≡ list_any spec.is_front_worn ends.now }
 {
     ends.iter().any(|end| matches!(end, FrontEnd::Worn))
 }
 
-/// Whether a front's ports broke.
 fn any_broken(ends: &[FrontEnd]) -> bool
     ensures { result ≡ list_any spec.is_broken ends.now }
 {
     ends.iter().any(|end| matches!(end, FrontEnd::Broken))
 }
 
-/// Whether a front ended for want of memory.
+// Whether a front ended for want of memory.
 fn any_wanting(ends: &[FrontEnd]) -> bool
     ensures { result ≡ list_any spec.is_wanting ends.now }
 {

@@ -14,7 +14,6 @@ use tile_store::TileStore;
 /// Where a farm that stops in order is saved in its store.
 pub const SAVED_PATH: &str = "farm.saved";
 
-/// The text of a fault of what was saved, over a plan: its number.
 fn resume_text(alloc: Global, fault: ResumeFault) -> Result<Text, NoMemory>
     ensures { IfOk result (λ t. spec.resume_text fault ≡ Some t) }
 {
@@ -27,7 +26,6 @@ fn resume_text(alloc: Global, fault: ResumeFault) -> Result<Text, NoMemory>
     }
 }
 
-/// The refusal of the saved farm for a fault with this text.
 fn refusal(alloc: Global, text: Result<Text, NoMemory>) -> Stop
     ensures { Tells text result }
 {
@@ -48,7 +46,7 @@ pub fn start<D: TileStore>(alloc: Global, plan: FarmPlan, store: D) -> Result<Fa
     }
 }
 
-/// A farm of the plan over the store that begins where the one stopped of which this is the text.
+// A farm of the plan over the store that begins where the one stopped of which this is the text.
 fn resume<D: TileStore>(
     alloc: Global,
     plan: FarmPlan,

@@ -11,7 +11,6 @@ use farm_shared::Closed;
 use std::alloc::Global;
 use tile_store::{StoreFault, TileStore};
 
-/// Puts the text of a saved farm in its place.
 fn put_saved<D: TileStore>(alloc: Global, closed: &mut Closed<D>, text: &[u8]) -> Result<(), Stop>
     ensures { PutsText D.state closed.old closed.new text.now result }
 {

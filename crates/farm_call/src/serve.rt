@@ -42,7 +42,6 @@ struct Ready<D: TileStore> {
     room: Vec<FrontDone>,
 }
 
-/// The address, which a configuration that is to listen has.
 fn address_of(address: &Option<Text>) -> &str
     ensures { result.now ≡ spec.address_of address.now }
 {
@@ -52,7 +51,6 @@ fn address_of(address: &Option<Text>) -> &str
     }
 }
 
-/// Listens at the addresses of the configuration.
 fn listen_at<P: Ports, B>(ports: &mut ThreePorts<P, B>, config: &Config) -> Result<(), Stop>
     ensures { Listening (places config.now
         (three (P.state ports.old.renderd) (P.state ports.old.tiles) (P.state ports.old.control))
@@ -66,7 +64,6 @@ fn listen_at<P: Ports, B>(ports: &mut ThreePorts<P, B>, config: &Config) -> Resu
     )
 }
 
-/// Serves a farm whose ports listen, and ends it.
 fn run<
     R: Threads + Wait + Clock + Sync,
     D: TileStore + Send,
@@ -110,7 +107,7 @@ fn run<
     }
 }
 
-/// Begins a farm of these inputs as the configuration says, listens, and serves it.
+// Begins a farm of these inputs as the configuration says, listens, and serves it.
 fn serve_config<
     R: Threads + Wait + Clock + Sync,
     D: TileStore + Send,
@@ -156,7 +153,6 @@ fn serve_config<
     run(rt, alloc, ready, out, ports, gate)
 }
 
-/// Begins a farm as its files say, listens, and serves it.
 fn serve_inputs<
     R: Threads + Wait + Clock + Sync,
     D: TileStore + Send,

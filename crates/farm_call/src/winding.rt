@@ -13,7 +13,6 @@ use farm_shared::Closed;
 use std::alloc::Global;
 use tile_store::TileStore;
 
-/// Saves the farm, where it is to resume and ended in order.
 fn save_if<D: TileStore>(
     alloc: Global,
     resume: bool,

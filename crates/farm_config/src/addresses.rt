@@ -7,7 +7,6 @@ ghost use Rattle.farm_config.specs.Addresses as spec;
 use crate::limits::MOST_PATH_BYTES;
 use line_reading::{cut, number_below};
 
-/// What stands behind a number below `bound` and the byte `end`.
 fn after_number(text: &str, end: char, bound: u32) -> Option<&str>
     requires { end < 128 }
     ensures { option_map (λ s. s.now) result ≡ option_and_then (λ p. if is_some (decimal_below bound p.0) then Some p.1 else None) (cut_at end text.entry.now) }
@@ -25,7 +24,6 @@ fn after_octet(text: &str, end: char) -> Option<&str>
     after_number(text, end, 256)
 }
 
-/// The port of `a.b.c.d:port`.
 #[tactic(auto, unfolding(crate::specs::Addresses::port_of))]
 fn port(endpoint: &str) -> Option<u32>
     ensures { result ≡ spec.port_of endpoint.now }

@@ -37,7 +37,6 @@ pub fn map_place(name: &str, maps: &[MapEntry]) -> Option<usize>
     maps.iter().position(|m| m.name.as_str() == name)
 }
 
-/// A map at the place behind those before it.
 #[tactic(auto, unfolding(crate::specs::Tables::map_entry))]
 fn map(alloc: Global, before: &[MapEntry], object: &Value) -> Result<MapEntry, ConfigFault>
     ensures value { Gives fault.NoMemory (λ x. x) (spec.map_entry (length before.now) before.now (view object.now)) result }
@@ -64,7 +63,6 @@ fn map(alloc: Global, before: &[MapEntry], object: &Value) -> Result<MapEntry, C
     })
 }
 
-/// The name of a map, which fits.
 fn map_name(name: &str) -> ArrayString<40>
     requires { IsTrue (is_map_name name.now) }
     ensures { result.bytes ≡ name.now }

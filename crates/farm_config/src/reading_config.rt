@@ -56,7 +56,7 @@ fn read_service(alloc: Global, object: &Value) -> Result<Service, ConfigFault>
     })
 }
 
-/// What is read last: the restyles of the maps, and whether a saved farm is resumed.
+// What is read last: the restyles of the maps, and whether a saved farm is resumed.
 #[tactic(auto, unfolding(crate::specs::inner::Parts::start_of))]
 fn start(
     alloc: Global,

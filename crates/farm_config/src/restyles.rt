@@ -22,7 +22,6 @@ use reading::{ReadItem, list, read_list, text};
 use serde_json::Value;
 use std::alloc::Global;
 
-/// The name that a restyle gives of its map.
 fn map_name_of(object: &Value) -> Result<&str, ConfigFault>
     ensures { seen (λ s. s.now) result ≡ needed (fault.Shape 10) (text (fault.Shape 10)) (get (codes "map") (view object.entry.now)) }
 {

@@ -22,7 +22,6 @@ use render_jobs::{is_overtaken, serve, touch_key};
 use render_queues::{Queues, Standing};
 use tile_store::TileStore;
 
-/// The queue of a command.
 fn own_queue(cmd: Cmd) -> Queue
     ensures { result ≡ own_queue cmd }
 {
@@ -35,7 +34,6 @@ fn own_queue(cmd: Cmd) -> Queue
     }
 }
 
-/// Whether the command lifts a metatile out of the dirty or bulk queue.
 fn is_lifting(cmd: Cmd) -> bool
     ensures { result ≡ is_lifting cmd }
 {
@@ -45,7 +43,6 @@ fn is_lifting(cmd: Cmd) -> bool
     }
 }
 
-/// Whether the command marks a metatile dirty.
 fn is_dirty_command(cmd: Cmd) -> bool
     ensures { result ≡ is_dirty_command cmd }
 {
@@ -55,7 +52,6 @@ fn is_dirty_command(cmd: Cmd) -> bool
     }
 }
 
-/// Whether there is a mark, and it is clean.
 fn is_clean(mark: Option<Mark>) -> bool
     ensures { result ≡ is_clean_mark mark }
 {
@@ -65,7 +61,6 @@ fn is_clean(mark: Option<Mark>) -> bool
     }
 }
 
-/// Whether it is the dirty queue.
 fn is_dirty(queue: Queue) -> bool
     ensures { result ≡ same_queue queue Queue.Dirty }
 {
@@ -75,7 +70,6 @@ fn is_dirty(queue: Queue) -> bool
     }
 }
 
-/// Whether it is the bulk queue.
 fn is_bulk(queue: Queue) -> bool
     ensures { result ≡ same_queue queue Queue.Bulk }
 {
@@ -95,7 +89,6 @@ struct Place {
     in_bulk: bool,
 }
 
-/// Where the metatile stands.
 fn place_of(queues: &Queues, key: Key) -> Place
     ensures flies { result.flies ≡ is_in key queues.now.taken }
     ensures waits { result.waits ≡ waits_at queues.now key }
@@ -125,7 +118,6 @@ fn place_of(queues: &Queues, key: Key) -> Place
     }
 }
 
-/// What an ask is answered whose metatile is not being drawn; `n` is its number.
 #[tactic(auto, unfolding(farm_history::specs::inner::Asks::answer_of_waiting))]
 fn answer_of_waiting(
     liftable: bool,
@@ -152,7 +144,6 @@ fn answer_of_waiting(
     }
 }
 
-/// Does to the tables what the answer to an ask for a key says.
 fn note_answer(queues: &mut Queues, own: Queue, key: Key, conn: Conn, answer: AskAnswer)
     requires { Needs queues.old own key answer }
     ensures { queues.new ≡ asked_tables queues.old own key conn answer }
@@ -172,7 +163,6 @@ fn note_answer(queues: &mut Queues, own: Queue, key: Key, conn: Conn, answer: As
     }
 }
 
-/// Puts a metatile that stands nowhere in the dirty queue, where that has room.
 fn place_dirty(queues: &mut Queues, key: Key)
     ensures { queues.new ≡ marked_tables queues.old key }
 {
@@ -191,7 +181,6 @@ pub(crate) fn one_more(n: u64, more: bool) -> u64
     if more { n + 1 } else { n }
 }
 
-/// Whether the answer gives the ask a number.
 fn is_numbered(answer: AskAnswer) -> bool
     ensures { result ≡ is_some (number_in answer) }
 {
@@ -202,14 +191,12 @@ fn is_numbered(answer: AskAnswer) -> bool
 }
 
 impl<D> Farm<D> {
-    /// Whether the connection, or all together, have as many open asks as may be.
     fn has_backlog(&self, conn: Conn) -> bool
         ensures { result ≡ (nat_le most_asks_of_one (open_of self.now.queues conn) || nat_le most_asks (open_count self.now.queues)) }
     {
         MOST_ASKS_OF_ONE <= self.queues.asks_of(conn) || MOST_ASKS <= self.queues.asks()
     }
 
-    /// What an ask for a metatile with a render command is answered, before any stop.
     fn answer(&self, conn: Conn, cmd: Cmd, key: Key) -> AskAnswer
         ensures { result ≡ answer_at self.now conn cmd key }
     {
@@ -241,7 +228,6 @@ impl<D> Farm<D> {
 }
 
 impl<D> Farm<D> {
-    /// Does what the answer to an ask with a render command says.
     fn note(&mut self, conn: Conn, cmd: Cmd, key: Key, answer: AskAnswer)
         requires key { IsKeyOf self.old.plan key }
         requires needs { Needs self.old.queues (own_queue cmd) key answer }
@@ -250,7 +236,6 @@ impl<D> Farm<D> {
         note_answer(&mut self.queues, own_queue(cmd), key, conn, answer);
     }
 
-    /// Counts an ask with a render command.
     fn count_ask(&mut self, answer: AskAnswer)
         requires numbers { self.old.counts.numbers < self.old.counts.turns }
         requires asks { self.old.counts.asks < self.old.counts.turns }
@@ -263,7 +248,6 @@ impl<D> Farm<D> {
         self.done = one_more(self.done, answer == AskAnswer::Done);
     }
 
-    /// Touches a metatile, and puts it in the dirty queue where it stands nowhere.
     fn mark_dirty(&mut self, key: Key)
         requires { IsKeyOf self.old.plan key }
         ensures { Dirties key self.old self.new }
@@ -275,7 +259,6 @@ impl<D> Farm<D> {
 }
 
 impl<D> Farm<D> {
-    /// The metatile of the spot, where it can be served.
     fn spot_key(&self, spot: Spot) -> Option<Key>
         ensures served { is_some result ≡ is_servable (plan_of self.now.plan) spot }
         ensures key { IfSome result (λ key. (key ≡ key_of spot) × IsKeyOf self.now.plan key) }
@@ -283,7 +266,6 @@ impl<D> Farm<D> {
         serve(self.own.setup(), spot)
     }
 
-    /// What an ask with a render command is answered.
     fn rendered(&self, conn: Conn, cmd: Cmd, served: Option<Key>) -> AskAnswer
         ensures answer { result ≡ rendered_at self.now conn cmd served }
         ensures needs { IfSome served (λ key. Needs self.now.queues (own_queue cmd) key result) }
@@ -298,7 +280,7 @@ impl<D> Farm<D> {
         }
     }
 
-    /// Does what the answer to an ask with a render command says, where the spot can be served.
+    // Does what the answer to an ask with a render command says, where the spot can be served.
     fn note_served(&mut self, conn: Conn, cmd: Cmd, served: Option<Key>, answer: AskAnswer)
         requires { IfSome served (λ key. IsKeyOf self.old.plan key × Needs self.old.queues (own_queue cmd) key answer) }
         ensures { self.new ≡ record self.old { queues = noted_tables self.old.queues (own_queue cmd) conn served answer } }
@@ -308,7 +290,6 @@ impl<D> Farm<D> {
         }
     }
 
-    /// Touches a metatile that is to be dirty, before a stop.
     fn mark(&mut self, served: Option<Key>)
         requires { IfSome served (IsKeyOf self.old.plan) }
         ensures { Dirtied self.old self.new served }
@@ -334,7 +315,7 @@ impl<D: TileStore> Farm<D> {
     /// `collect`.
     ///
     /// With `Cmd::Dirty` the answer is Silent: before a stop, a servable metatile is touched, and goes to the
-    /// dirty queue where it neither waits nor is being drawn. Takes no memory.
+    /// dirty queue where it neither waits nor is being drawn.
     pub fn ask(&mut self, conn: Conn, cmd: Cmd, spot: Spot) -> AskAnswer
         requires { self.old.counts.turns < 2 ^ 63 }
         ensures step { (store_tells : Bool) (h : List Entry) → StandsFor D.state store_tells self.old h → StandsFor D.state store_tells self.new (Ask conn cmd spot result ∷ h) }

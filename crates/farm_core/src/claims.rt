@@ -37,7 +37,6 @@ impl<D> Farm<D> {
         self.turns += 1;
     }
 
-    /// Whether as many drawings are under way as there are workers.
     fn is_crowded(&self) -> bool
         ensures crowded { result ≡ is_crowded self.now }
         ensures sound { AreSound self.now.queues }
@@ -46,7 +45,6 @@ impl<D> Farm<D> {
         !self.queues.can_take() || self.own.setup().workers() as usize <= self.taken.len()
     }
 
-    /// Takes what waits first.
     fn next_key(&mut self) -> Option<Key>
         requires { length self.old.queues.taken < self.old.queues.workers }
         ensures key { result ≡ option_map (λ w. w.key) (next_of self.old.queues.lines) }
@@ -56,7 +54,6 @@ impl<D> Farm<D> {
         self.queues.take()
     }
 
-    /// Makes the job of a metatile that was taken.
     fn begin(&mut self, worker: u32, key: Key) -> Job
         requires key { IsKeyOf self.old.plan key }
         requires free { length self.old.taken < self.old.plan.workers }
@@ -79,7 +76,6 @@ impl<D> Farm<D> {
         Job::new(share, ticket, worker, key, version, styled)
     }
 
-    /// Takes what waits first, and makes its job.
     fn take_job(&mut self, worker: u32) -> Option<Job>
         requires free { length self.old.taken < self.old.plan.workers }
         requires places { length self.old.queues.taken < self.old.queues.workers }
@@ -96,7 +92,7 @@ impl<D> Farm<D> {
 impl<D: TileStore> Farm<D> {
     /// A worker, by its number, asks for a drawing to make: the first that waits in the first queue that is
     /// not empty, in renderd's order. It is over the newest data and in the map's style as it is now. Crowded
-    /// where as many drawings are under way as there are workers, Stopped after a stop. Takes no memory.
+    /// where as many drawings are under way as there are workers, Stopped after a stop.
     pub fn claim(&mut self, worker: u32) -> Claimed
         requires { self.old.counts.turns < 2 ^ 63 }
         ensures step { (store_tells : Bool) (h : List Entry) → StandsFor D.state store_tells self.old h → StandsFor D.state store_tells self.new (Claim worker (claim_answer result) ∷ h) }

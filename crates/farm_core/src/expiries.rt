@@ -15,7 +15,6 @@ use render_jobs::{touch_map, touch_tile};
 use tile_store::TileStore;
 
 impl<D> Farm<D> {
-    /// Touches what the tile overlaps, and counts what was clean of it.
     fn mark_tile_dirty(&mut self, tile: Tile) -> u64
         requires { IsTile tile }
         ensures { Dirties (overlaps tile) self.old self.new result }
@@ -24,7 +23,6 @@ impl<D> Farm<D> {
         self.marks.expire(tile)
     }
 
-    /// Touches what is of the map, and counts what was clean of it.
     fn mark_map_dirty(&mut self, map: u32) -> u64
         ensures { Dirties (is_of_map map) self.old self.new result }
     {
@@ -34,7 +32,6 @@ impl<D> Farm<D> {
 }
 
 impl<D> Farm<D> {
-    /// Gives the map the style of the number.
     fn give_style(&mut self, map: u32, number: u32)
         requires { map < length self.old.plan.maps }
         ensures { self.new ≡ record self.old { styled = slice_set self.old.styled map (Some number) } }
@@ -42,7 +39,6 @@ impl<D> Farm<D> {
         self.styled[map as usize] = Some(number);
     }
 
-    /// The map of the style of the number, where the table has one.
     fn styled_map(&self, number: u32) -> Option<u32>
         ensures map { result ≡ option_map (λ r. r.map) (slice_get self.now.plan.restyles number) }
         ensures in_table { IfSome result (λ map. map < length self.now.plan.maps) }
@@ -54,7 +50,7 @@ impl<D> Farm<D> {
 
 impl<D: TileStore> Farm<D> {
     /// Expires a tile: everything that it overlaps, on every map and zoom, is dirty from now on. Answers how many
-    /// metatiles were clean before. Takes no memory.
+    /// metatiles were clean before.
     pub fn expire(&mut self, t: Tile) -> u64
         requires turns { self.old.counts.turns < 2 ^ 63 }
         requires tile { IsTile t }
@@ -68,7 +64,7 @@ impl<D: TileStore> Farm<D> {
 
     /// Gives a map the style of the number, which is of that map; all of the map is touched. Answers Styled with
     /// how many of its metatiles were clean, and NoRestyle exactly where the table has no style of that number.
-    /// The map's name, tile size and greatest zoom stay. Takes no memory.
+    /// The map's name, tile size and greatest zoom stay.
     pub fn restyle(&mut self, number: u32) -> Restyled
         requires { self.old.counts.turns < 2 ^ 63 }
         ensures step { (store_tells : Bool) (h : List Entry) → StandsFor D.state store_tells self.old h → StandsFor D.state store_tells self.new (Restyle number result ∷ h) }

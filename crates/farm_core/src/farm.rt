@@ -89,21 +89,21 @@ impl<D> Farm<D> {
         self.own.setup().law_ranged();
     }
 
-    /// How many maps the plan has. Takes no memory.
+    /// How many maps the plan has.
     pub fn maps(&self) -> u32
         ensures { result ≡ length self.now.plan.maps }
     {
         self.own.setup().maps().len() as u32
     }
 
-    /// The place of the map of the name; nothing exactly where the plan has none of that name. Takes no memory.
+    /// The place of the map of the name; nothing exactly where the plan has none of that name.
     pub fn map_of(&self, name: &[u8]) -> Option<u32>
         ensures { result ≡ maps_in self.now.plan name.now }
     {
         self.own.setup().map_of(name)
     }
 
-    /// The name of the map at the place, which the plan has. Takes no memory.
+    /// The name of the map at the place, which the plan has.
     pub fn map_name(&self, map: u32) -> &str
         requires { map < length self.now.plan.maps }
         ensures { Some result.now ≡ option_map (λ m. m.name) (slice_get self.now.plan.maps map) }

@@ -22,7 +22,6 @@ use render_jobs::serve;
 use std::alloc::Global;
 use tile_store::{StoreFault, TileStore};
 
-/// What a fetch is answered where the store refused a read.
 fn refused(fault: StoreFault) -> Fetched
     ensures { result ≡ refused_by fault }
 {
@@ -32,7 +31,6 @@ fn refused(fault: StoreFault) -> Fetched
     }
 }
 
-/// Reads the head of the container at the path, and by it the tile's part.
 fn read_tile<D: TileStore>(
     alloc: Global,
     store: &mut D,
@@ -66,7 +64,6 @@ fn read_tile<D: TileStore>(
     }
 }
 
-/// What a fetch of a tile with that mark is answered.
 fn fetched_by(mark: Mark, read: Result<Bytes, Fetched>) -> Fetched
     ensures { result ≡ fetched_by mark read }
 {
@@ -82,7 +79,6 @@ fn fetched_by(mark: Mark, read: Result<Bytes, Fetched>) -> Fetched
     }
 }
 
-/// How a metatile with that mark stands.
 fn looked_by(mark: Option<Mark>) -> Looked
     ensures { result ≡ looked_by mark }
 {
@@ -99,7 +95,6 @@ fn looked_by(mark: Option<Mark>) -> Looked
 }
 
 impl<D> Farm<D> {
-    /// How the spot's metatile stands.
     fn standing(&self, spot: Spot) -> Looked
         ensures { result ≡ look_at self.now spot }
     {
@@ -111,7 +106,6 @@ impl<D> Farm<D> {
 }
 
 impl<D: TileStore> Farm<D> {
-    /// Reads a tile of a metatile with that mark.
     fn read(&mut self, alloc: Global, key: Key, tile: Tile, mark: Mark) -> Fetched
         requires key { IsKeyOf self.old.plan key }
         requires tile { IsTile tile }
@@ -127,7 +121,7 @@ impl<D: TileStore> Farm<D> {
 impl<D: TileStore> Farm<D> {
     /// How a spot's metatile stands: Unservable where its map is not given or not in the plan, its zoom is past
     /// the map's greatest, or its column or row past the zoom's; Missing where it is not shown; else Clean or
-    /// Dirty with the data version of what is shown. Takes no memory.
+    /// Dirty with the data version of what is shown.
     pub fn look(&mut self, spot: Spot) -> Looked
         requires { self.old.counts.turns < 2 ^ 63 }
         ensures step { (store_tells : Bool) (h : List Entry) → StandsFor D.state store_tells self.old h → StandsFor D.state store_tells self.new (Look spot result ∷ h) }

@@ -33,7 +33,6 @@ pub enum Drawn {
     NoMemory,
 }
 
-/// Whether something was drawn.
 fn is_drawn(drawn: &Drawn) -> bool
     ensures { result ≡ is_drawn drawn.now }
 {
@@ -44,7 +43,7 @@ fn is_drawn(drawn: &Drawn) -> bool
     }
 }
 
-/// Puts a share back, where it is of the newest data, and lets it go otherwise.
+// Puts a share back, where it is of the newest data, and lets it go otherwise.
 fn give_back(spares: &mut Vec<Share>, share: Share, is_newest: bool)
     requires { is_newest ≡ true → length spares.old.items < vec_capacity spares.old }
     ensures items { spares.new.items ≡ (if is_newest then spares.old.items ++ share ∷ [] else spares.old.items) }
@@ -55,7 +54,7 @@ fn give_back(spares: &mut Vec<Share>, share: Share, is_newest: bool)
     }
 }
 
-/// Ends the drawing of a metatile that was stored; one that was touched goes to the dirty queue.
+// Ends the drawing of a metatile that was stored; one that was touched goes to the dirty queue.
 fn end_stored(queues: &mut Queues, key: Key, touched: bool)
     requires { is_in key queues.old.taken ≡ true }
     ensures { queues.new ≡ stale_tables (not touched) (after_end queues.old key Outcome.Done) key }
@@ -68,7 +67,7 @@ fn end_stored(queues: &mut Queues, key: Key, touched: bool)
 }
 
 impl<D> Farm<D> {
-    /// Takes a drawing out of those under way, and its share back; answers whether its metatile was touched.
+    // Takes a drawing out of those under way, and its share back; answers whether its metatile was touched.
     fn release(&mut self, job: Job) -> bool
         requires { IsTaken self.old job }
         ensures touched { option_map (λ t. t.touched) (taken_at self.old.taken job.ticket) ≡ Some result }
@@ -81,7 +80,6 @@ impl<D> Farm<D> {
         touched
     }
 
-    /// Makes room to show one metatile more.
     fn reserve(&mut self) -> Result<(), NoMemory>
         ensures farm { self.new ≡ record self.old { marks = self.new.marks } }
         ensures shown { self.new.marks.shown ≡ self.old.marks.shown }
@@ -90,7 +88,6 @@ impl<D> Farm<D> {
         self.marks.reserve_one()
     }
 
-    /// Shows a metatile that was stored, and ends its drawing.
     fn show(&mut self, key: Key, version: u64, touched: bool)
         requires key { IsKeyOf self.old.plan key }
         requires room { 1 ≤ self.old.marks.room }
@@ -104,7 +101,6 @@ impl<D> Farm<D> {
         self.stored += 1;
     }
 
-    /// Shows nothing of a metatile whose put failed, and ends its drawing.
     fn lose(&mut self, key: Key)
         ensures marks { MarksBut self.old.marks self.new.marks key None }
         ensures farm { self.new ≡ record self.old { marks = self.new.marks; queues = after_end self.old.queues key Outcome.NotDone } }
@@ -113,7 +109,7 @@ impl<D> Farm<D> {
         self.queues.end(key, Outcome::NotDone);
     }
 
-    /// Ends a drawing for want of memory.
+    // Ends a drawing for want of memory.
     fn cut(&mut self, key: Key)
         ensures { self.new ≡ record self.old { queues = after_end self.old.queues key Outcome.Cut } }
     {
@@ -122,7 +118,6 @@ impl<D> Farm<D> {
 }
 
 impl<D> Farm<D> {
-    /// Ends a drawing by what its put answered.
     fn end_put(
         &mut self,
         key: Key,
@@ -155,7 +150,7 @@ impl<D> Farm<D> {
 }
 
 impl<D: TileStore> Farm<D> {
-    /// Puts what was drawn at its metatile's path; without a drawing there was no memory.
+    // Puts what was drawn at its metatile's path; without a drawing there was no memory.
     fn put(&mut self, alloc: Global, key: Key, drawn: &Drawn) -> Result<(), StoreFault>
         requires { IsKeyOf self.old.plan key }
         ensures store { StorePuts (D.state self.old.store) (D.state self.new.store) (key_path self.old.plan key) (drawn_bytes drawn.now) result }
@@ -169,7 +164,6 @@ impl<D: TileStore> Farm<D> {
         }
     }
 
-    /// Puts a drawing and shows it; memory is taken before the put.
     fn keep(
         &mut self,
         alloc: Global,
@@ -193,7 +187,6 @@ impl<D: TileStore> Farm<D> {
 }
 
 impl<D: TileStore> Farm<D> {
-    /// The end of a drawing whose bytes are at hand.
     fn finish_drawn(&mut self, alloc: Global, job: Job, drawn: &Drawn) -> Finished
         requires turns { self.old.counts.turns < 2 ^ 63 }
         requires flight { (store_tells : Bool) × (h : List Entry) × StandsFor D.state store_tells self.old h × IsFlight self.old.plan h job }
@@ -210,7 +203,6 @@ impl<D: TileStore> Farm<D> {
         self.keep(alloc, key, version, touched, drawn)
     }
 
-    /// The end of a drawing for which a worker had no memory.
     fn finish_none(&mut self, job: Job) -> Finished
         requires turns { self.old.counts.turns < 2 ^ 63 }
         requires flight { (store_tells : Bool) × (h : List Entry) × StandsFor D.state store_tells self.old h × IsFlight self.old.plan h job }

@@ -22,7 +22,6 @@ use render_jobs::{Setup, Taken, overtaken};
 use std::alloc::Global;
 use tile_store::TileStore;
 
-/// Whether some of the boxes reaches the metatile, for the tiles of its map.
 fn is_reached(setup: &Setup, boxes: &[Bounds], key: Key) -> bool
     requires plan { IsPlan setup.now }
     requires key { IsKeyOf setup.now key }
@@ -32,7 +31,6 @@ fn is_reached(setup: &Setup, boxes: &[Bounds], key: Key) -> bool
     boxes_reach(boxes, size, key.meta)
 }
 
-/// Notes that the metatiles that some of the boxes reaches were touched.
 fn touch_reached(taken: &mut [Taken], setup: &Setup, boxes: &[Bounds])
     requires plan { IsPlan setup.now }
     requires keys { Each (λ t. IsKeyOf setup.now t.key) taken.old }
@@ -44,7 +42,6 @@ fn touch_reached(taken: &mut [Taken], setup: &Setup, boxes: &[Bounds])
 }
 
 impl<D> Farm<D> {
-    /// The boxes of the features that the update of the number names.
     fn named(&self, alloc: Global, number: u32) -> Result<Vec<Bounds>, NoMemory>
         requires { number < length self.now.plan.updates }
         ensures { IfOk result (λ boxes. AreBoxesOf (named self.now.data_now (update_of self.now.plan number)) boxes.items) }
@@ -53,7 +50,7 @@ impl<D> Farm<D> {
         named_boxes(alloc, self.own.snapshot(), update)
     }
 
-    /// Touches what the boxes reach, and counts what was clean of it. The boxes end in another order.
+    // Touches what the boxes reach, and counts what was clean of it. The boxes end in another order.
     fn mark_reached_dirty(&mut self, boxes: &mut [Bounds]) -> u64
         ensures { Reaches boxes.old self.old self.new result }
     {

@@ -14,14 +14,12 @@ use farm_plan::{Collected, Conn, Outcome, Reply, Tally};
 use render_queues::Queues;
 use tile_store::TileStore;
 
-/// Takes the front's first reply out.
 fn take_first(queues: &mut Queues, front: u32) -> Option<Reply>
     ensures { TakesFirst queues.old queues.new front result }
 {
     queues.collect(front)
 }
 
-/// Whether the reply says Done.
 fn is_done(reply: Reply) -> bool
     ensures { result ≡ is_done reply.outcome }
 {
@@ -32,7 +30,6 @@ fn is_done(reply: Reply) -> bool
 }
 
 impl<D> Farm<D> {
-    /// Takes the front's first reply; a reply Done is counted.
     fn take_reply(&mut self, front: u32) -> Option<Reply>
         requires done { self.old.counts.done < self.old.counts.turns }
         requires turns { self.old.counts.turns ≤ 2 ^ 63 }
@@ -43,7 +40,7 @@ impl<D> Farm<D> {
         Some(reply)
     }
 
-    /// What a front without a reply is answered.
+    // What a front without a reply is answered.
     fn no_reply(&self) -> Collected
         ensures { result ≡ collected_by None self.now.counts.stopped }
     {
@@ -56,7 +53,6 @@ impl<D> Farm<D> {
 }
 
 impl<D> Farm<D> {
-    /// Drops the connection's open asks, and counts them.
     fn drop_asks(&mut self, conn: Conn) -> u32
         ensures count { result ≡ open_of self.old.queues conn }
         ensures farm { self.new ≡ record self.old { queues = after_leave self.old.queues conn } }
@@ -64,14 +60,12 @@ impl<D> Farm<D> {
         self.queues.leave(conn)
     }
 
-    /// Notes the stop.
     fn note_stop(&mut self)
         ensures { self.new ≡ record self.old { counts = record self.old.counts { stopped = true } } }
     {
         self.stopped = true;
     }
 
-    /// The farm's counts.
     fn counts(&self) -> Tally
         ensures { result ≡ tally_of self.now.counts }
     {
@@ -102,7 +96,6 @@ impl<D: TileStore> Farm<D> {
     }
 
     /// Forgets the open asks of the connection, and answers how many there were; what waits for them stays.
-    /// Takes no memory.
     pub fn leave(&mut self, conn: Conn) -> u32
         requires { self.old.counts.turns < 2 ^ 63 }
         ensures step { (store_tells : Bool) (h : List Entry) → StandsFor D.state store_tells self.old h → StandsFor D.state store_tells self.new (Leave conn result ∷ h) }
@@ -114,7 +107,7 @@ impl<D: TileStore> Farm<D> {
     }
 
     /// Stops the farm for good: asks are NotDone, claims Stopped. Drawings under way may still end, and what
-    /// waits stays. Takes no memory.
+    /// waits stays.
     pub fn stop(&mut self)
         requires { self.old.counts.turns < 2 ^ 63 }
         ensures step { (store_tells : Bool) (h : List Entry) → StandsFor D.state store_tells self.old h → StandsFor D.state store_tells self.new (Stop ∷ h) }
@@ -125,7 +118,7 @@ impl<D: TileStore> Farm<D> {
         self.note_stop();
     }
 
-    /// The farm's counts. Takes no memory.
+    /// The farm's counts.
     pub fn tally(&mut self) -> Tally
         requires { self.old.counts.turns < 2 ^ 63 }
         ensures step { (store_tells : Bool) (h : List Entry) → StandsFor D.state store_tells self.old h → StandsFor D.state store_tells self.new (Counted result ∷ h) }

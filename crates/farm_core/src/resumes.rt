@@ -26,7 +26,7 @@ use std::alloc::Global;
 use tile_store::TileStore;
 
 impl<D> Farm<D> {
-    /// The maps of a farm that begins are given these styles, and it keeps what was saved.
+    // The maps of a farm that begins are given these styles, and it keeps what was saved.
     fn keep_saved(&mut self, styled: Vec<Option<u32>>, saved: Saved)
         requires started { IsStarted self.old.plan self.old.store self.old }
         requires styled { styled.items ≡ saved.styles }
@@ -38,7 +38,7 @@ impl<D> Farm<D> {
         self.saved = Some(saved);
     }
 
-    /// The maps of a farm that begins are given the styles that were saved, and it keeps what was saved.
+    // The maps of a farm that begins are given the styles that were saved, and it keeps what was saved.
     fn give_saved(&mut self, alloc: Global, saved: &Saved) -> Result<(), NoMemory>
         requires started { IsStarted self.old.plan self.old.store self.old }
         requires maps { length saved.now.styles ≡ length self.old.plan.maps }
@@ -53,7 +53,7 @@ impl<D> Farm<D> {
 }
 
 impl<D> Farm<D> {
-    /// Shows a clean metatile again, where it is of that version.
+    // Shows a clean metatile again, where it is of that version.
     fn replay_at(&mut self, version: u64, kept: Kept) -> Result<(), NoMemory>
         requires meta { IsMeta kept.key.meta }
         requires turns { self.old.counts.turns < 2 ^ 63 }
@@ -74,7 +74,7 @@ impl<D> Farm<D> {
         Ok(())
     }
 
-    /// Makes an update again.
+    // Makes an update again.
     fn replay_change(&mut self, alloc: Global, past: Past) -> Result<(), ApplyFault>
         requires known { past_number past < length self.old.plan.updates }
         requires turns { self.old.counts.turns < 2 ^ 63 }
@@ -94,7 +94,7 @@ impl<D> Farm<D> {
 }
 
 impl<D: TileStore> Farm<D> {
-    /// Shows the clean metatiles of that version again, in order.
+    // Shows the clean metatiles of that version again, in order.
     fn replay_keys(&mut self, version: u64, clean: &[Kept]) -> Result<(), NoMemory>
         requires version { version ≡ self.old.counts.version }
         requires keys { Each (CanReplay self.old.plan) clean.now }
@@ -115,7 +115,7 @@ impl<D: TileStore> Farm<D> {
 }
 
 impl<D: TileStore> Farm<D> {
-    /// Shows the clean metatiles of a version again, and then makes the update again that ended it.
+    // Shows the clean metatiles of a version again, and then makes the update again that ended it.
     fn replay_version(
         &mut self,
         alloc: Global,
@@ -140,7 +140,7 @@ impl<D: TileStore> Farm<D> {
         }
     }
 
-    /// Replays what was saved: for each version in turn its clean metatiles, and then the update that ended it.
+    // Replays what was saved: for each version in turn its clean metatiles, and then the update that ended it.
     fn replay(&mut self, alloc: Global, updates: &[Past], clean: &[Kept]) -> Result<(), ResumeFault>
         requires version { self.old.counts.version ≡ 0 }
         requires known { Each (λ c. past_number c < length self.old.plan.updates) updates.now }
@@ -161,7 +161,7 @@ impl<D: TileStore> Farm<D> {
         Ok(())
     }
 
-    /// Replays what was saved, which is of such a plan but for the faults of its updates.
+    // Replays what was saved, which is of such a plan but for the faults of its updates.
     fn replay_saved(&mut self, alloc: Global, saved: &Saved) -> Result<(), ResumeFault>
         requires plan { IsPlan self.old.plan }
         requires anew { IsAnew self.old.plan saved.now self.old.store self.old }
@@ -176,8 +176,8 @@ impl<D: TileStore> Farm<D> {
         self.replay(alloc, saved.updates.as_slice(), saved.clean.as_slice())
     }
 
-    /// A farm that begins is brought to where another was saved, which is of such a plan but for the faults of
-    /// its updates.
+    // A farm that begins is brought to where another was saved, which is of such a plan but for the faults of
+    // its updates.
     fn take_checked(&mut self, alloc: Global, saved: &Saved) -> Result<(), ResumeFault>
         requires plan { IsPlan self.old.plan }
         requires started { IsStarted self.old.plan self.old.store self.old }
@@ -195,8 +195,8 @@ impl<D: TileStore> Farm<D> {
         }
     }
 
-    /// A farm that begins is brought to where another was saved. Err is the first fault of what was saved, or
-    /// want of memory.
+    // A farm that begins is brought to where another was saved. Err is the first fault of what was saved, or
+    // want of memory.
     fn take_up(&mut self, alloc: Global, saved: &Saved) -> Result<(), ResumeFault>
         requires plan { IsPlan self.old.plan }
         requires started { IsStarted self.old.plan self.old.store self.old }

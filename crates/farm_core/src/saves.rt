@@ -14,7 +14,6 @@ use std::alloc::Global;
 use tile_store::TileStore;
 
 impl<D> Farm<D> {
-    /// The styles, the updates and the clean marks.
     fn kept(&self, alloc: Global) -> Result<Saved, NoMemory>
         ensures { IfOk result (Keeps self.now) }
     {

@@ -31,7 +31,6 @@ struct Parts {
     tables: Tables,
 }
 
-/// No style for each of so many maps.
 #[tactic(auto, using(render_jobs::proofs::Replicas::replicate_push))]
 fn no_styles(alloc: Global, count: usize) -> Result<Vec<Option<u32>>, NoMemory>
     ensures { IfOk result (λ v. v.items ≡ replicate count None) }
@@ -43,7 +42,7 @@ fn no_styles(alloc: Global, count: usize) -> Result<Vec<Option<u32>>, NoMemory>
     Ok(styled)
 }
 
-/// The tables of a farm of so many maps and workers, with all the room that its limits and workers need.
+// The tables of a farm of so many maps and workers, with all the room that its limits and workers need.
 fn first_tables(
     alloc: Global,
     maps: usize,
@@ -62,7 +61,6 @@ fn first_tables(
     })
 }
 
-/// The shares of the plan and its data: the farm's own, and one for each worker.
 fn first_shares(alloc: Global, plan: FarmPlan) -> Result<(Share, Vec<Share>), NoMemory>
     ensures own { IfOk result (λ s. s.0 ≡ record { plan = plan; data_now = plan.dataset }) }
     ensures alike { IfOk result (λ s. s.1.items ≡ replicate plan.workers s.0) }
@@ -73,7 +71,6 @@ fn first_shares(alloc: Global, plan: FarmPlan) -> Result<(Share, Vec<Share>), No
     Ok((own, spares))
 }
 
-/// The parts of a farm of the plan.
 fn first_parts(alloc: Global, plan: FarmPlan) -> Result<Parts, NoMemory>
     ensures { IfOk result (λ p. AreParts plan p.own p.spares.items (vec_capacity p.spares) p.tables.styled.items p.tables.taken.items p.tables.queues (vec_capacity p.tables.taken)) }
 {
@@ -91,7 +88,6 @@ fn first_parts(alloc: Global, plan: FarmPlan) -> Result<Parts, NoMemory>
     }
 }
 
-/// The farm of these parts over the store.
 fn begin<D>(alloc: Global, parts: Parts, store: D) -> Farm<D>
     requires plan { IsPlan parts.own.plan }
     requires parts { AreParts parts.own.plan parts.own parts.spares.items (vec_capacity parts.spares) parts.tables.styled.items parts.tables.taken.items parts.tables.queues (vec_capacity parts.tables.taken) }

@@ -24,7 +24,6 @@ struct Next {
     spares: Vec<Share>,
 }
 
-/// The shares of the data of the snapshot.
 fn next_of(alloc: Global, own: &Share, snapshot: Snapshot) -> Result<Next, NoMemory>
     ensures { IfOk result (λ next. IsNext own.now snapshot next.own next.spares.items (vec_capacity next.spares)) }
 {
@@ -33,7 +32,6 @@ fn next_of(alloc: Global, own: &Share, snapshot: Snapshot) -> Result<Next, NoMem
     Ok(Next { own: next, spares })
 }
 
-/// The next data after an update, with its shares.
 fn next_data(alloc: Global, own: &Share, update: &Update) -> Result<Next, ApplyFault>
     ensures done { IfOk result (λ next. Nexts own.now update.now next.own next.spares.items (vec_capacity next.spares)) }
     ensures refused { IfErr result (λ e. e ≢ ApplyFault.NoMemory → update_result update.now own.now.data_now ≡ Err e) }
@@ -46,7 +44,6 @@ fn next_data(alloc: Global, own: &Share, update: &Update) -> Result<Next, ApplyF
 }
 
 impl<D> Farm<D> {
-    /// The next data of the update of the number.
     fn next(&self, alloc: Global, number: u32) -> Result<Next, ApplyFault>
         requires { number < length self.now.plan.updates }
         ensures done { IfOk result (λ next. Nexts (own_of self.now) (update_of self.now.plan number) next.own next.spares.items (vec_capacity next.spares)) }
@@ -56,7 +53,6 @@ impl<D> Farm<D> {
         next_data(alloc, &self.own, update)
     }
 
-    /// Goes on to the next data, by an update that is noted.
     fn go_on(&mut self, next: Next, past: Past) -> Result<(), NoMemory>
         requires next { IsNext (own_of self.old) next.own.data_now next.own next.spares.items (vec_capacity next.spares) }
         requires more { self.old.counts.version < self.old.counts.turns }

@@ -27,7 +27,7 @@ pub(crate) fn config_file<F: Files>(
     checked(alloc, name, read_config(alloc, bytes.as_slice()))
 }
 
-/// The same configuration, if it names all three addresses; else the Shape of the first that it lacks.
+// The same configuration, if it names all three addresses; else the Shape of the first that it lacks.
 #[tactic(auto, unfolding(crate::specs::Addresses::addressed_of))]
 fn addressed(config: Config) -> Result<Config, ConfigFault>
     ensures { result ≡ addressed_of config }

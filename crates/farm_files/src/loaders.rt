@@ -17,7 +17,6 @@ use farm_plan::{MapPlan, Restyle};
 use geo_json::read_update;
 use std::alloc::Global;
 
-/// Reads a map's style with its rasters.
 #[tactic(auto, using(crate::proofs::Maps::map_read, crate::proofs::Maps::map_stops))]
 fn map_file<F: Files>(alloc: Global, files: &mut F, entry: &MapEntry) -> Result<MapPlan, Stop>
     ensures { Follows (map_course entry.now) (F.state files.old) (F.state files.new) result }
@@ -31,7 +30,6 @@ fn map_file<F: Files>(alloc: Global, files: &mut F, entry: &MapEntry) -> Result<
     })
 }
 
-/// Reads the style of a restyle with its rasters.
 #[tactic(auto, using(crate::proofs::Maps::restyle_read, crate::proofs::Maps::restyle_stops))]
 fn restyle_file<F: Files>(
     alloc: Global,
@@ -47,7 +45,6 @@ fn restyle_file<F: Files>(
     })
 }
 
-/// Reads an update's file and checks it.
 #[tactic(auto, using(crate::proofs::Judged::file_stops))]
 fn update_file<F: Files>(alloc: Global, files: &mut F, name: &str) -> Result<Update, Stop>
     ensures { Follows (update_course name.now) (F.state files.old) (F.state files.new) result }
@@ -56,7 +53,6 @@ fn update_file<F: Files>(alloc: Global, files: &mut F, name: &str) -> Result<Upd
     checked(alloc, name, read_update(alloc, bytes.as_slice()))
 }
 
-/// Reads an expiry list.
 fn tile_list(alloc: Global, bytes: &[u8]) -> Result<TileList, ListFault>
     ensures { Gives fault.NoMemory (λ l. l) (list_in bytes.now) result }
 {
@@ -65,7 +61,6 @@ fn tile_list(alloc: Global, bytes: &[u8]) -> Result<TileList, ListFault>
     })
 }
 
-/// Reads an expiry list's file and checks it.
 #[tactic(auto, using(crate::proofs::Judged::file_stops))]
 fn list_file<F: Files>(alloc: Global, files: &mut F, name: &str) -> Result<TileList, Stop>
     ensures { Follows (list_course name.now) (F.state files.old) (F.state files.new) result }

@@ -71,7 +71,6 @@ impl Load for RasterFiles {
     }
 }
 
-// Reads a raster's file and checks it.
 #[tactic(auto, using(crate::proofs::Fitting::raster_stops))]
 fn raster_file<F: Files>(alloc: Global, files: &mut F, raster: &RasterRef) -> Result<Grid, Stop>
     ensures { Follows (raster_course raster.now) (F.state files.old) (F.state files.new) result }
@@ -81,7 +80,6 @@ fn raster_file<F: Files>(alloc: Global, files: &mut F, raster: &RasterRef) -> Re
     checked(alloc, name, read_raster(alloc, raster, bytes.as_slice()))
 }
 
-// The grid that the bytes of a raster's file say, or their first fault.
 #[tactic(auto, using(crate::proofs::Reading::ppm_refused, crate::proofs::Reading::ppm_read))]
 fn read_raster(alloc: Global, raster: &RasterRef, bytes: &[u8]) -> Result<Grid, RasterFault>
     ensures { Gives (fault.Ppm ppm.NoMemory) (λ x. x) (raster_in raster.now bytes.now) result }
@@ -92,7 +90,6 @@ fn read_raster(alloc: Global, raster: &RasterRef, bytes: &[u8]) -> Result<Grid, 
     }
 }
 
-// The grid of a raster with this picture.
 fn grid_of(alloc: Global, raster: &RasterRef, image: Image) -> Result<Grid, RasterFault>
     ensures { Gives (fault.Ppm ppm.NoMemory) (λ x. x) (with_image raster.now image) result }
 {

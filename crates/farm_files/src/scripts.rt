@@ -55,7 +55,6 @@ impl Model for ServeInputs {
     ghost view = { λ s. record { config = s.config; inputs = s.inputs } };
 }
 
-/// Reads a script's file and checks it.
 #[tactic(auto, using(crate::proofs::Judged::file_stops))]
 fn script_file<F: Files>(alloc: Global, files: &mut F, name: &str) -> Result<Script, Stop>
     ensures { Follows (file script_in script_text name.now) (F.state files.old) (F.state files.new) result }
@@ -64,7 +63,6 @@ fn script_file<F: Files>(alloc: Global, files: &mut F, name: &str) -> Result<Scr
     checked(alloc, name, read_script(alloc, bytes.as_slice()))
 }
 
-/// The files that a configuration names, which is of no use behind them.
 fn named_inputs<F: Files>(alloc: Global, files: &mut F, config: Config) -> Result<FarmInputs, Stop>
     ensures follows { Follows (inputs_course config) (F.state files.old) (F.state files.new) result }
     ensures valid { IfOk result (λ i. IsPlan i.plan) }

@@ -25,7 +25,6 @@ pub fn bound_style<F: Files>(alloc: Global, files: &mut F, name: &str) -> Result
     Ok(style.bind(grids))
 }
 
-// Reads a style's file and checks it.
 #[tactic(auto, using(crate::proofs::Judged::file_stops))]
 fn style_file<F: Files>(alloc: Global, files: &mut F, name: &str) -> Result<MapStyle, Stop>
     ensures { Follows (file style_in style_text name.now) (F.state files.old) (F.state files.new) result }

@@ -18,7 +18,7 @@ const SLOW_LOOKS: u32 = 20_000;
 /// For how many seconds it looks at most.
 const PATIENCE: u64 = 20;
 
-/// Whether it is late, since that moment; where the clock cannot be read it is not.
+// Whether it is late, since that moment; where the clock cannot be read it is not.
 fn is_late<R: Clock>(rt: &R, began: Option<Instant>) -> bool {
     let Some(began) = began else {
         return false;
@@ -73,7 +73,7 @@ impl StartBarrier {
         seen == self.all
     }
 
-    /// Waits until all have begun or one has given up, for some twenty seconds at most: the last count seen.
+    // Waits until all have begun or one has given up, for some twenty seconds at most: the last count seen.
     fn wait<R: Clock>(&self, rt: &R) -> u64 {
         let began = Instant::now(rt).ok();
         for look in 0..QUICK_LOOKS + SLOW_LOOKS {

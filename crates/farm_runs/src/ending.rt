@@ -14,14 +14,14 @@ use render_workers::WorkEnd;
 use std::sync::Wait;
 use tile_store::TileStore;
 
-/// Whether a worker ended since all turns were drawn.
+// Whether a worker ended since all turns were drawn.
 fn ended_worn(end: &Option<WorkEnd>) -> bool
     ensures { result ≡ is_worker_worn end.now }
 {
     matches!(end, Some(WorkEnd::Worn))
 }
 
-/// Joins the workers' seats into the first, from the last one on: whether a worker ended since all turns were drawn.
+// Joins the workers' seats into the first, from the last one on: whether a worker ended since all turns were drawn.
 fn gather<D: TileStore>(farm: &SharedFarm<D>, own: &mut Seat<D>, pool: Vec<Actor<Seat<D>>>) -> bool
     requires seat { IsSeatOf farm.now own.old }
     requires first { own.old.first ≡ true }

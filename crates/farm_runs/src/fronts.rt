@@ -19,7 +19,7 @@ use std::sync::Wait;
 use std::thread::{Threads, join_mut};
 use tile_store::TileStore;
 
-/// A front that is not begun stops the farm, and ends for want of memory.
+// A front that is not begun stops the farm, and ends for want of memory.
 #[tactic(auto, using(crate::proofs::Acting::stopped, crate::proofs::Acting::worn))]
 fn turn_away<R: Wait, D: TileStore>(
     rt: &R,
@@ -44,7 +44,7 @@ fn turn_away<R: Wait, D: TileStore>(
     }
 }
 
-/// A front in its thread: it serves where all actors have begun. When it has ended all are woken.
+// A front in its thread: it serves where all actors have begun. When it has ended all are woken.
 fn serve_front<R: Wait + Clock, D: TileStore, F: Serving, P: Ports, B: Bell>(
     rt: &R,
     alloc: Global,
@@ -72,7 +72,6 @@ fn serve_front<R: Wait + Clock, D: TileStore, F: Serving, P: Ports, B: Bell>(
     done
 }
 
-/// The renderd front of a run.
 fn serve_renderd<
     R: Wait + Clock,
     D: TileStore,
@@ -105,7 +104,6 @@ fn serve_renderd<
     )
 }
 
-/// The tile front of a run.
 fn serve_tiles<
     R: Wait + Clock,
     D: TileStore,
@@ -138,7 +136,6 @@ fn serve_tiles<
     )
 }
 
-/// The control front of a run.
 fn serve_control<
     R: Wait + Clock,
     D: TileStore,

@@ -27,7 +27,7 @@ pub struct Actor<S> {
     pub end: Option<WorkEnd>,
 }
 
-/// A worker in its thread: it works where all actors have begun.
+// A worker in its thread: it works where all actors have begun.
 #[tactic(auto, using(crate::proofs::Acting::began, crate::proofs::Acting::not_begun))]
 fn work_post<R: Wait + Clock, D: TileStore, G: Stage, B: Bell>(
     rt: &R,

@@ -45,7 +45,7 @@ pub struct Run<D: TileStore> {
     pub worn: bool,
 }
 
-/// The seats of a run: those of the fronts and of the workers are split from the first.
+// The seats of a run: those of the fronts and of the workers are split from the first.
 fn set_seats<D: TileStore>(
     farm: &SharedFarm<D>,
     own: Seat<D>,
@@ -72,7 +72,6 @@ fn set_seats<D: TileStore>(
     }
 }
 
-/// A run from its seats to its end.
 fn act<
     R: Threads + Wait + Clock + Sync,
     D: TileStore + Send,

@@ -34,7 +34,6 @@ pub fn parking_for(alloc: Global, workers: u32) -> Result<Parking, NoMemory>
     Ok(Parking { parkers, sleepers })
 }
 
-/// A seat split from the first.
 fn take_seat<D: TileStore>(farm: &SharedFarm<D>, own: &mut Seat<D>) -> Seat<D>
     requires seat { IsSeatOf farm.now own.old }
     requires first { own.old.first ≡ true }

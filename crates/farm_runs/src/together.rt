@@ -34,7 +34,6 @@ pub struct RunSeats<S> {
     pub pool: Vec<Actor<S>>,
 }
 
-/// The fronts, through their seats.
 fn serve_slot<
     R: Threads + Wait + Clock + Sync,
     D: TileStore + Send,

@@ -51,7 +51,6 @@ pub fn long_number(bytes: &[u8], short: SavedFault) -> Result<(u64, &[u8]), Save
     Ok((LittleEndian::read_u64(bytes), bytes.split_at(8).1))
 }
 
-/// The style that a map's number says.
 fn style_of(number: u32) -> Option<u32>
     ensures value { result ≡ spec.style_if_any number }
     ensures fits { StyleFits result }
@@ -93,7 +92,6 @@ pub fn past<'a>(
     Ok((past, rest))
 }
 
-/// The fields of a clean entry, which is not judged yet.
 #[tactic(auto, unfolding(crate::specs::Reading::fields_in))]
 fn fields(bytes: &[u8], short: SavedFault) -> Result<(Kept, &[u8]), SavedFault>
     ensures value { seen (λ p. (p.0, p.1.now)) result ≡ spec.fields_in short bytes.entry.now }
@@ -109,7 +107,6 @@ fn fields(bytes: &[u8], short: SavedFault) -> Result<(Kept, &[u8]), SavedFault>
     Ok((Kept { key, version }, rest))
 }
 
-/// Whether one key comes before another: by map, zoom, column and row.
 fn is_before(a: Key, b: Key) -> bool
     ensures { result ≡ key_before a b }
 {
@@ -134,7 +131,6 @@ fn is_behind(last: Option<&Kept>, key: Key) -> bool
     }
 }
 
-/// Whether an entry may stand behind those before it.
 #[tactic(auto, unfolding(crate::specs::Reading::is_kept))]
 fn is_kept(updates: u64, before: &[Kept], kept: Kept) -> bool
     ensures { result ≡ spec.is_kept updates before.now kept }

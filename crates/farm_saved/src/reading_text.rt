@@ -12,7 +12,6 @@ use crate::lists::{clean, styles, updates};
 use farm_history::Saved;
 use std::alloc::Global;
 
-/// Whether nothing is left of so many bytes.
 #[tactic(auto, unfolding(crate::specs::Reading::nothing_left))]
 fn ended(all: u64, rest: &[u8]) -> Result<(), SavedFault>
     requires { length rest.now ≤ all }
@@ -24,7 +23,6 @@ fn ended(all: u64, rest: &[u8]) -> Result<(), SavedFault>
     Err(SavedFault::Extra(all - rest.len() as u64))
 }
 
-/// The whole text.
 #[tactic(auto, unfolding(crate::specs::Reading::saved_in, crate::specs::Reading::saving_in))]
 fn saved(alloc: Global, bytes: &[u8]) -> Result<Saved, SavedFault>
     ensures value { Gives fault.NoMemory (λ s. s) (spec.saved_in bytes.now) result }

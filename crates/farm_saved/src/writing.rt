@@ -11,7 +11,6 @@ use farm_history::{Kept, Past, Saved};
 use meta_container::put_number;
 use std::alloc::Global;
 
-/// Appends a number in eight bytes.
 fn put_long(out: &mut Vec<u8>, number: u64) -> Result<(), NoMemory>
     ensures { OnOk result (out.new.items ≡ out.old.items ++ little_bytes 8 number) }
 {

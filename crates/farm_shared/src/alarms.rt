@@ -14,7 +14,7 @@ pub struct Alarms<'a, B> {
 
 impl<'a, B: Bell> Alarms<'a, B> {
     /// Wakes all. It promises nothing, since no contract knows who sleeps: who is woken looks for work whatever woke
-    /// it. Takes no memory.
+    /// it.
     pub fn ring_all(&self) {
         for worker in self.workers {
             worker.unpark();
@@ -23,7 +23,7 @@ impl<'a, B: Bell> Alarms<'a, B> {
     }
 
     /// Wakes the fronts, where a drawing has ended: in one of them somebody may wait for it. Its end puts at most
-    /// its own metatile in a queue, and who ended it claims next. It promises as little, and takes no memory.
+    /// its own metatile in a queue, and who ended it claims next. It promises as little.
     pub fn ring_fronts(&self) {
         self.bells.renderd.ring();
         self.bells.tiles.ring();

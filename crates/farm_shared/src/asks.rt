@@ -85,7 +85,7 @@ impl<D: TileStore> Call<Turned<D>> for LeaveTurn {
 
 impl<D: TileStore> SharedFarm<D> {
     /// A connection asks for the metatile of a spot, as `Farm::ask`. The seat is that of the connection's front: its
-    /// number is one more than the front's. Takes no memory.
+    /// number is one more than the front's.
     pub fn ask<R: Wait>(
         &self,
         rt: &R,
@@ -106,7 +106,7 @@ impl<D: TileStore> SharedFarm<D> {
     }
 
     /// A front takes the first of its replies, as `Farm::collect`, through its own seat. A reply is that of an ask
-    /// among the seat's own entries. Takes no memory.
+    /// among the seat's own entries.
     pub fn collect<R: Wait>(
         &self,
         rt: &R,
@@ -125,7 +125,7 @@ impl<D: TileStore> SharedFarm<D> {
         self.take(rt, seat, CollectTurn { front })
     }
 
-    /// Forgets the open asks of a connection, as `Farm::leave`, through the seat of its front. Takes no memory.
+    /// Forgets the open asks of a connection, as `Farm::leave`, through the seat of its front.
     pub fn leave<R: Wait>(&self, rt: &R, seat: &mut Seat<D>, conn: Conn) -> Result<u32, Worn>
         requires seat { IsSeatOf self.now seat.old }
         requires front { seat.old.number ≡ conn.front + 1 }

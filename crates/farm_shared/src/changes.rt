@@ -167,7 +167,7 @@ impl<D: TileStore> SharedFarm<D> {
         self.take(rt, seat, RenewTurn { alloc, number })
     }
 
-    /// Gives a map the style of the number, as `Farm::restyle`. Takes no memory.
+    /// Gives a map the style of the number, as `Farm::restyle`.
     pub fn restyle<R: Wait>(
         &self,
         rt: &R,
@@ -184,7 +184,7 @@ impl<D: TileStore> SharedFarm<D> {
         self.take(rt, seat, RestyleTurn { number })
     }
 
-    /// Expires a tile, as `Farm::expire`. Takes no memory.
+    /// Expires a tile, as `Farm::expire`.
     pub fn expire<R: Wait>(&self, rt: &R, seat: &mut Seat<D>, t: Tile) -> Result<u64, Worn>
         requires seat { IsSeatOf self.now seat.old }
         requires tile { IsTile t }
@@ -197,7 +197,7 @@ impl<D: TileStore> SharedFarm<D> {
         self.take(rt, seat, ExpireTurn { tile: t })
     }
 
-    /// Stops the farm for good, as `Farm::stop`. Takes no memory.
+    /// Stops the farm for good, as `Farm::stop`.
     pub fn stop<R: Wait>(&self, rt: &R, seat: &mut Seat<D>) -> Result<(), Worn>
         requires seat { IsSeatOf self.now seat.old }
         ensures seat { IsSeatOf self.now seat.new }

@@ -68,8 +68,7 @@ impl<D: TileStore> Call<Turned<D>> for FinishTurn {
 }
 
 impl<D: TileStore> SharedFarm<D> {
-    /// A worker, by its number, asks for a drawing to make, as `Farm::claim`. A job is the seat's to finish. Takes
-    /// no memory.
+    /// A worker, by its number, asks for a drawing to make, as `Farm::claim`. A job is the seat's to finish.
     pub fn claim<R: Wait>(&self, rt: &R, seat: &mut Seat<D>, worker: u32) -> Result<Claimed, Worn>
         requires seat { IsSeatOf self.now seat.old }
         ensures seat { IsSeatOf self.now seat.new }

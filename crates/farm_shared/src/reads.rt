@@ -99,7 +99,7 @@ impl<D: TileStore> SharedFarm<D> {
         self.take(rt, seat, FetchTurn { alloc, spot })
     }
 
-    /// How a spot's metatile stands, as `Farm::look`. Takes no memory.
+    /// How a spot's metatile stands, as `Farm::look`.
     pub fn look<R: Wait>(&self, rt: &R, seat: &mut Seat<D>, spot: Spot) -> Result<Looked, Worn>
         requires seat { IsSeatOf self.now seat.old }
         ensures seat { IsSeatOf self.now seat.new }
@@ -111,7 +111,7 @@ impl<D: TileStore> SharedFarm<D> {
         self.take(rt, seat, LookTurn { spot })
     }
 
-    /// The farm's counts, as `Farm::tally`. Takes no memory.
+    /// The farm's counts, as `Farm::tally`.
     pub fn tally<R: Wait>(&self, rt: &R, seat: &mut Seat<D>) -> Result<Tally, Worn>
         requires seat { IsSeatOf self.now seat.old }
         ensures seat { IsSeatOf self.now seat.new }

@@ -71,7 +71,6 @@ impl<D: TileStore> Model for SharedFarm<D> {
     ghost invariant = { λ f. AreNames f.cell.about.first.value.farm.plan.maps f.names.texts.items };
 }
 
-/// The names of the farm's maps, in order.
 fn names_of<D: TileStore>(alloc: Global, farm: &Farm<D>) -> Result<Vec<Text>, NoMemory>
     ensures { IfOk result (λ texts. AreNames farm.now.plan.maps texts.items) }
 {
@@ -82,7 +81,6 @@ fn names_of<D: TileStore>(alloc: Global, farm: &Farm<D>) -> Result<Vec<Text>, No
     Ok(names)
 }
 
-/// The place of the name.
 fn place_in(names: &[Text], name: &[u8]) -> Option<usize>
     ensures { result ≡ position (λ n. bytes_eq n name.now) names.now }
 {
@@ -118,8 +116,7 @@ impl<D: TileStore> SharedFarm<D> {
         }
     }
 
-    /// The place of the map of the name; nothing exactly where the plan has none of that name. It is no turn,
-    /// and takes no memory.
+    /// The place of the map of the name; nothing exactly where the plan has none of that name. It is no turn.
     pub fn map_of(&self, name: &[u8]) -> Option<u32>
         ensures { result ≡ maps_of self.now name.now }
     {

@@ -18,7 +18,6 @@ const RASTER: &[u8] = b"P6 1 1 255\n\xff\x00\x00";
 // A container of one tile of one byte, up to the end of its numbers.
 const NUMBERS: &[u8] = b"META\x40\0\0\0\0\0\0\0\0\0\0\0\0\0\0\0\x14\x02\0\0\x01\0\0\0";
 
-// `render` of a white tile over a style with two rasters.
 fn render<R: Threads + Wait + Clock + Sync + Abort>(
     rt: &R,
     sockets: HostRuntime,
@@ -37,7 +36,6 @@ fn render<R: Threads + Wait + Clock + Sync + Abort>(
     )
 }
 
-// Whether it ended so, put a proper front of this on out, and nothing on err.
 fn is_front(ended: &Ended, status: u8, whole: &[u8]) -> bool {
     let put = ended.out.bytes();
     ended.status == status
@@ -46,7 +44,6 @@ fn is_front(ended: &Ended, status: u8, whole: &[u8]) -> bool {
         && ended.err.bytes().is_empty()
 }
 
-// Whether it ended with 0, put so many bytes on out, and none on err.
 fn is_all(ended: &Ended, count: usize) -> bool {
     ended.status == 0 && ended.out.bytes().len() == count && ended.err.bytes().is_empty()
 }
@@ -74,7 +71,6 @@ fn a_refusal_whose_put_fails(rt: HostRuntime) {
     assert!(rt; ended.status == 4 && is_told && ended.out.bytes().is_empty());
 }
 
-// `meta` of a container of one tile of one byte.
 fn meta<R: Threads + Wait + Clock + Sync + Abort>(
     rt: &R,
     sockets: HostRuntime,
@@ -138,7 +134,6 @@ const ANSWERS: &[u8] =
 // One for each answer, and two more for the bytes of the tile.
 const PUTS: u64 = 16;
 
-// `script` over these files.
 fn script<R: Threads + Wait + Clock + Sync + Abort>(
     rt: &R,
     sockets: HostRuntime,
@@ -148,7 +143,6 @@ fn script<R: Threads + Wait + Clock + Sync + Abort>(
     call(rt, sockets, alloc, &["script", "C", "L"], &SQUARE, faults)
 }
 
-// The script where that put on out fails.
 fn unput<R: Threads + Wait + Clock + Sync + Abort>(
     rt: &R,
     sockets: HostRuntime,

@@ -9,7 +9,6 @@ use merc_fixed::{meta_of, tile};
 use std::alloc::Global;
 use std::process::Abort;
 
-// The metatile of the tile, on that map.
 fn key(map: u32, z: u32, x: u32, y: u32) -> Option<Key>
     ensures { IfSome result (λ k. IsMeta k.meta) }
 {
@@ -17,7 +16,6 @@ fn key(map: u32, z: u32, x: u32, y: u32) -> Option<Key>
     Some(Key { map, meta })
 }
 
-// Shows it, clean.
 fn show(rt: &impl Abort, marks: &mut Marks, key: Option<Key>)
     requires { IfSome key (λ k. IsMeta k.meta) }
 {
@@ -41,7 +39,6 @@ fn is_clean(marks: &Marks, key: Option<Key>) -> Option<bool> {
     Some(marks.of(key?)?.clean)
 }
 
-// Which of the four are clean.
 fn cleans(marks: &Marks) -> [Option<bool>; 4] {
     [
         is_clean(marks, key(0, 10, 528, 336)),

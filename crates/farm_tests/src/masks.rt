@@ -19,7 +19,6 @@ const WHITE: Colour = Colour {
 
 const RED: Colour = Colour { r: 255, g: 0, b: 0 };
 
-// The square from (2, 2) to (10, 10).
 fn square(alloc: Global) -> Result<Vec<Path>, NoMemory>
     ensures { IfOk result (λ v. All (All InWorld) v.items) }
 {
@@ -60,7 +59,6 @@ fn a_square_with_centres_on_its_edges(rt: HostRuntime) {
     assert!(rt; image.pixel(1, 1) == RED && image.pixel(2, 1) == WHITE);
 }
 
-// The four parts of an image of 32 by 32 pixels, by columns.
 fn put_parts(image: &TiledImage, out: &mut Vec<u8>) -> Result<(), NoMemory>
     requires cols { image.now.cols ≡ 32 }
     requires rows { image.now.rows ≡ 32 }

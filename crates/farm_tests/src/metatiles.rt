@@ -21,7 +21,6 @@ const SQUARE: &str =
 // The four tiles of zoom 1.
 const QUARTERS: Meta = Meta { z: 1, x: 0, y: 0 };
 
-// The data of a text in red as the tiles of a metatile.
 fn drawn(alloc: Global, text: &str, size: u32, meta: Meta) -> Result<DrawnMeta, Fail>
     requires size { IsTileSize size }
     requires meta { IsMeta meta }
@@ -34,7 +33,6 @@ fn drawn(alloc: Global, text: &str, size: u32, meta: Meta) -> Result<DrawnMeta, 
     Ok(drawn?)
 }
 
-// Whether the tiles have the square in these bounds.
 fn are_boxed(tiles: &[Bytes], bounds: [[usize; 4]; 4]) -> bool {
     for (tile, bounds) in tiles.iter().zip(bounds) {
         if !is_boxed(tile.as_slice(), b"P6\n16 16\n255\n", 16, bounds) {
@@ -66,7 +64,6 @@ pub(crate) fn container(alloc: Global, style: &str, size: u32, meta: Meta) -> Re
     Ok(drawn?)
 }
 
-// The container of a metatile by way of its tiles.
 fn encoded(
     alloc: Global,
     style: &MapStyle,
@@ -82,7 +79,6 @@ fn encoded(
     encode(alloc, drawn.meta, drawn.tiles.as_slice())
 }
 
-// The square in red so.
 fn red_encoded(alloc: Global, size: u32) -> Result<Vec<u8>, Fail>
     requires { IsTileSize size }
 {
@@ -124,7 +120,6 @@ fn boundary(k: u32) -> (u32, u32) {
     }
 }
 
-// Data of a polygon of that one ring.
 fn ring(alloc: Global) -> Result<String, AllocError> {
     let mut text = String::from_str(
         alloc,

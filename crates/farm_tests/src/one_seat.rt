@@ -33,7 +33,6 @@ const META: Meta = Meta { z: 0, x: 0, y: 0 };
 /// A tile of zoom 5.
 const WITHIN: Tile = Tile { z: 5, x: 3, y: 3 };
 
-/// A connection asks for the world.
 fn ask<R: Wait, D: TileStore>(
     rt: &R,
     farm: &SharedFarm<D>,
@@ -47,7 +46,7 @@ fn ask<R: Wait, D: TileStore>(
     farm.ask(rt, seat, conn, Cmd::Render, WORLD).ok()
 }
 
-/// Whether the reply is to this ask of this connection, which has what it asked for.
+// Whether the reply is to this ask of this connection, which has what it asked for.
 fn is_reply(collected: Option<Collected>, number: u32, ask: u64) -> bool {
     match collected {
         Some(Collected::Reply(reply)) => {
@@ -70,12 +69,10 @@ fn collect<R: Wait, D: TileStore>(
     farm.collect(rt, seat, 0).ok()
 }
 
-/// Whether it is the drawing of the world over the first data, with that ticket.
 fn is_job(job: &Job, ticket: u64) -> bool {
     job.ticket == ticket && job.map == 0 && job.meta == META && job.version == 0
 }
 
-/// The drawing is expired while it is made, and then asked for.
 fn draw_expired<R: Wait + Abort, D: TileStore>(
     rt: &R,
     farm: &SharedFarm<D>,
@@ -102,7 +99,6 @@ fn draw_expired<R: Wait + Abort, D: TileStore>(
     assert!(rt; matches!(finished, Ok(Finished::Stored(false))));
 }
 
-/// A drawing that is not disturbed.
 fn draw_anew<R: Wait + Abort, D: TileStore>(
     rt: &R,
     farm: &SharedFarm<D>,
@@ -121,7 +117,6 @@ fn draw_anew<R: Wait + Abort, D: TileStore>(
     assert!(rt; matches!(finished, Ok(Finished::Stored(true))));
 }
 
-/// Two ask for it, and both have the reply of one drawing.
 fn begin<R: Wait + Abort, D: TileStore>(
     rt: &R,
     farm: &SharedFarm<D>,
@@ -143,7 +138,7 @@ fn begin<R: Wait + Abort, D: TileStore>(
     assert!(rt; matches!(third, Some(Collected::Empty)));
 }
 
-/// What was expired is asked for again and drawn anew.
+// What was expired is asked for again and drawn anew.
 fn go_on<R: Wait + Abort, D: TileStore>(
     rt: &R,
     farm: &SharedFarm<D>,
@@ -164,7 +159,6 @@ fn go_on<R: Wait + Abort, D: TileStore>(
     assert!(rt; matches!(&fetched, Ok(Fetched::Clean(0, bytes)) if bytes.as_slice().len() == 781));
 }
 
-/// A shared farm of the plan over an empty store, and its first seat.
 #[tactic(auto, using(farm_shared::proofs::Shares::is_short))]
 fn share(alloc: Global, plan: FarmPlan) -> Option<(SharedFarm<MemStore>, Seat<MemStore>)>
     requires { IsPlan plan }

@@ -24,7 +24,7 @@ impl Write for SlowWriter {
     }
 }
 
-/// What a put of the piece answers where the writer takes so many bytes a call, and what was taken.
+// What a put of the piece answers where the writer takes so many bytes a call, and what was taken.
 fn puts(alloc: Global, most: usize, piece: &[u8]) -> (Result<(), SinkFault>, Vec<u8>) {
     let mut writer = SlowWriter {
         taken: Vec::new(alloc),

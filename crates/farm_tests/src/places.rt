@@ -16,7 +16,6 @@ fn place() -> Option<u32> {
     Some(index_place(tile(10, 535, 340)?))
 }
 
-// Whether the metatile of the tile 10/535/340 has this path.
 fn is_path(name: &str, wanted: &str) -> bool {
     match tile(10, 535, 340) {
         Some(t) => is_name(name) && path(name, meta_of(t)).as_str() == wanted,
@@ -53,7 +52,6 @@ fn the_ends_of_the_coordinates(rt: HostRuntime) {
     }
 }
 
-// The head of a container of the tile 0/0/0 alone, which has 781 bytes.
 fn head(alloc: Global) -> Result<Vec<u8>, Fail> {
     let mut bytes = Vec::from_slice(alloc, b"META")?;
     bytes.extend_from_slice(&[64, 0, 0, 0, 0, 0, 0, 0, 0, 0, 0, 0, 0, 0, 0, 0])?;

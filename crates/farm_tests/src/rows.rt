@@ -16,7 +16,6 @@ use reach_box::reaches;
 use std::alloc::Global;
 use std::test::Fail;
 
-// The points with the ids 1 to 600, each at its id.
 fn points(alloc: Global) -> Result<Snapshot, Fail> {
     let mut text = String::from_str(
         alloc,
@@ -44,7 +43,6 @@ fn place_of(snapshot: &Snapshot, id: u64) -> Option<u32> {
     snapshot.layer("land")?.place_of(id)
 }
 
-// The first place of a feature at this point.
 fn place_at(snapshot: &Snapshot, x: u32) -> Option<u32> {
     snapshot.layer("land")?.next_near(0, x, 0, x, 0)
 }
@@ -66,7 +64,6 @@ fn places_now(new: &Snapshot) -> [Option<u32>; 6] {
     ]
 }
 
-// Where 300 stands in the layer as it was, and what is found there.
 fn places_before(old: &Snapshot) -> [Option<u32>; 2] {
     [place_of(old, 300), place_at(old, 300)]
 }
@@ -86,7 +83,6 @@ fn places_in_a_changed_layer(rt: HostRuntime) -> Result<(), Fail> {
     Ok(())
 }
 
-// The square in red as a metatile of 16 pixels a tile.
 fn red_container(alloc: Global, m: Meta) -> Result<Vec<u8>, Fail>
     requires { IsMeta m }
 {
@@ -99,7 +95,6 @@ const HEAD: [u8; 28] = [
     3, 0, 0,
 ];
 
-// Whether nothing stands at the other 63 places.
 fn is_alone(bytes: &[u8]) -> bool {
     let mut place = 0usize;
     for byte in bytes {
@@ -119,7 +114,6 @@ fn the_container_of_the_world(rt: HostRuntime) -> Result<(), Fail> {
     Ok(())
 }
 
-// Whether the tile 2/2/1 stands there in the bytes, and is this picture.
 fn is_found(bytes: &[u8], entry: Entry, picture: &[u8]) -> bool {
     let Some(t) = tile(2, 2, 1) else {
         return false;

@@ -15,7 +15,6 @@ use tile_store::{MemStore, TileStore};
 const ANSWERS: &[u8] =
     b"queued 0\njoined 1\njob 0 default 0 0 0 0\nidle\nclean\nnojob\nreply 0 0 done\nreply 1 1 done\nempty\ndone\n";
 
-/// Runs the script on a farm that just began.
 fn run_on<D: TileStore + Drop, O: Sink>(
     alloc: Global,
     farm: Farm<D>,
@@ -48,7 +47,6 @@ fn run_over<O: Sink>(
     Some(run_on(alloc, farm, script, out))
 }
 
-/// How the script ends. None where a file is refused, or memory was wanting.
 fn end_of<O: Sink>(alloc: Global, out: &mut O) -> Option<ScriptEnd> {
     let ScriptInputs { inputs, script } = inputs(alloc)?;
     let end = run_over(alloc, inputs.plan, &script, out);

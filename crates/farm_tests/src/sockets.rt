@@ -53,12 +53,10 @@ struct Places {
     control: u16,
 }
 
-/// A port of loopback that nobody else has, as long as it is held.
 fn held<R: Net<Listener = TcpListener, Stream = TcpStream>>(rt: &R) -> io::Result<TcpListener> {
     TcpListener::bind(rt, "127.0.0.1:0")
 }
 
-/// Three ports of loopback at which nobody listens.
 fn free_places<R>(rt: &R) -> io::Result<Places>
 where
     R: Net<Listener = TcpListener, Stream = TcpStream>,
@@ -71,7 +69,6 @@ where
     })
 }
 
-/// A connection, once somebody listens.
 fn connected<R: Net<Stream = TcpStream> + Clock>(
     rt: &R,
     alloc: Global,
@@ -88,13 +85,12 @@ fn connected<R: Net<Stream = TcpStream> + Clock>(
     TcpStream::connect(rt, place.as_str())
 }
 
-/// Whether the port is taken at the address that was named alone, and not at the whole of loopback.
+// Whether the port is taken at the address that was named alone, and not at the whole of loopback.
 fn is_alone<R: Net<Stream = TcpStream>>(rt: &R, alloc: Global, port: u16) -> io::Result<bool> {
     let place = format!(in alloc; "127.0.0.2:{port}")?;
     Ok(TcpStream::connect(rt, place.as_str()).is_err())
 }
 
-/// Whether this is answered by that.
 fn is_answered<R: Net<Stream = TcpStream> + Clock>(
     rt: &R,
     alloc: Global,
@@ -109,7 +105,7 @@ fn is_answered<R: Net<Stream = TcpStream> + Clock>(
     Ok(answer.as_slice() == wanted)
 }
 
-/// How many bytes are answered to a GET, and the sum of each of them times its place, which counts from 1.
+// How many bytes are answered to a GET, and the sum of each of them times its place, which counts from 1.
 fn length_and_sum<R: Net<Stream = TcpStream> + Clock>(
     rt: &R,
     alloc: Global,
@@ -128,8 +124,8 @@ fn length_and_sum<R: Net<Stream = TcpStream> + Clock>(
     Ok((length, sum))
 }
 
-/// Asks for drawings and stops the farm. Where an answer is not as wanted the process ends at once: nobody stops the
-/// farm any more.
+// Asks for drawings and stops the farm. Where an answer is not as wanted the process ends at once: nobody stops the
+// farm any more.
 fn visit<R: Net<Stream = TcpStream> + Clock + Abort>(rt: &R, alloc: Global, places: Places) {
     let Places {
         renderd,
@@ -148,7 +144,6 @@ fn visit<R: Net<Stream = TcpStream> + Clock + Abort>(rt: &R, alloc: Global, plac
     assert!(rt; stopping, "not told that it stops");
 }
 
-/// The configuration of a farm that listens at these ports.
 fn config(alloc: Global, places: Places) -> Result<String, NoMemory> {
     let Places {
         renderd,
@@ -160,7 +155,7 @@ fn config(alloc: Global, places: Places) -> Result<String, NoMemory> {
     )?)
 }
 
-/// Serves until the farm is stopped: whether it ended with 0, put the tally on out and nothing on err.
+// Serves until the farm is stopped: whether it ended with 0, put the tally on out and nothing on err.
 fn serve<R: Threads + Wait + Clock + Sync + Abort, P: Ports + Send, B: Bell + Send + Sync>(
     rt: &R,
     alloc: Global,

@@ -15,7 +15,6 @@ const PATH: &str = "map/0/0/0/0/0/0.meta";
 
 const PARTED: &str = "tiles/map/0/0/0/0/0/0.meta";
 
-/// Whether a get gave these bytes.
 fn is_got(found: &Result<Option<Vec<u8>>, StoreFault>, wanted: &[u8]) -> bool {
     matches!(found, Ok(Some(bytes)) if bytes.as_slice() == wanted)
 }
@@ -30,7 +29,6 @@ fn puts<S: TileStore>(rt: &impl Abort, store: &mut S, alloc: Global, path: &str,
     assert!(rt; put.is_ok(), "put of {path}");
 }
 
-/// Nothing is at the path.
 fn misses<S: TileStore>(rt: &impl Abort, store: &mut S, alloc: Global, path: &str) {
     let found = store.get(alloc, path);
     assert!(rt; matches!(found, Ok(None)), "get of {path}");
@@ -48,7 +46,6 @@ fn gets_part<S: TileStore>(
     assert!(rt; is_got(&found, wanted), "{len} from {offset}");
 }
 
-/// What every store does with paths, whole contents and parts.
 fn holds<S: TileStore>(rt: &impl Abort, store: &mut S, alloc: Global) {
     misses(rt, store, alloc, PATH);
     let part = store.get_part(alloc, PATH, 0, 9);
@@ -76,7 +73,6 @@ fn holds<S: TileStore>(rt: &impl Abort, store: &mut S, alloc: Global) {
     assert!(rt; store.faults() == 0);
 }
 
-/// Removes what a run left.
 fn clear<R: Files + Alloc>(rt: &R) {
     let _left_by_an_earlier_run = fs::remove_dir_all(rt, "tiles");
 }
@@ -97,7 +93,6 @@ fn memory_and_files_hold(rt: HostRuntime) {
     clear(&rt);
 }
 
-/// What the system refuses is Failed, and counted.
 fn refuses<S: TileStore>(rt: &impl Abort, store: &mut S, alloc: Global, path: &str) {
     let before = store.faults();
     let put = store.put(alloc, path, b"x");
@@ -138,7 +133,6 @@ fn the_system_refuses(rt: HostRuntime) {
     clear(&rt);
 }
 
-/// Whether the file has these bytes.
 fn is_file<R: Files + Alloc>(rt: &R, name: &str, bytes: &[u8]) -> bool {
     match fs::read(rt, name) {
         Ok(read) => read.as_slice() == bytes,
@@ -146,7 +140,6 @@ fn is_file<R: Files + Alloc>(rt: &R, name: &str, bytes: &[u8]) -> bool {
     }
 }
 
-/// Another file takes the place of the one whose parts are read.
 fn takes_place<R: Files + Abort>(rt: &R, bytes: &[u8]) {
     makes_file(rt, "tiles/other", bytes);
     let named = fs::rename(rt, "tiles/other", PARTED);
@@ -161,7 +154,6 @@ fn makes_folder<R: Files + Abort>(rt: &R, name: &str) {
     assert!(rt; fs::create_dir_all(rt, name).is_ok(), "no folder {name}");
 }
 
-/// The bytes, staged under the number.
 fn staged_as<R: Files>(
     rt: &impl Abort,
     staging: &FileStaging<'_, R>,
@@ -178,7 +170,6 @@ fn staged_as<R: Files>(
     staged
 }
 
-/// The bytes are handed back, and not staged under the number.
 fn is_not_staged<R: Files>(
     rt: &impl Abort,
     staging: &FileStaging<'_, R>,
@@ -196,12 +187,10 @@ fn is_not_staged<R: Files>(
     );
 }
 
-/// The first call of a store, which takes the folder.
 fn takes_folder<S: TileStore>(rt: &impl Abort, files: &mut S, alloc: Global) {
     misses(rt, files, alloc, "nothing");
 }
 
-/// Whether a get gave all of these bytes but the first.
 fn is_rest(found: &Result<Option<Vec<u8>>, StoreFault>, bytes: &[u8]) -> bool {
     match bytes.get(1..) {
         Some(rest) => is_got(found, rest),
@@ -209,14 +198,13 @@ fn is_rest(found: &Result<Option<Vec<u8>>, StoreFault>, bytes: &[u8]) -> bool {
     }
 }
 
-/// What was staged is put at the path `one`.
 fn puts_one<S: TileStore>(rt: &impl Abort, store: &mut S, alloc: Global, staged: &Staged) {
     let put = store.put_staged(alloc, "one", staged);
     assert!(rt; put.is_ok(), "staged put of one");
 }
 
-/// Stages the bytes, puts them at the path and clears what is left. The staged file itself is put, and a beginning that was read
-/// before is not kept.
+// Stages the bytes, puts them at the path and clears what is left. The staged file itself is put, and a beginning that was read
+// before is not kept.
 fn puts_staged<R: Files<File = File> + Abort>(
     rt: &R,
     staging: &FileStaging<'_, R>,

@@ -23,7 +23,6 @@ const REMOVE: [&str; 2] = [
 const FAR_ON: &str =
     r#"{"units":"world","changes":[{"layer":"land","remove":[2060],"put":[{"id":2070,"geometry":{"points":[[50,6]]}},{"id":9000,"geometry":{"points":[[60,7]]}}]}]}"#;
 
-// Between two texts the numbers from 0 on, so many, each in its piece.
 fn numbered(
     alloc: Global,
     around: [&str; 2],
@@ -41,7 +40,6 @@ fn numbered(
     Ok(text)
 }
 
-// Data of so many features, with the ids from 0 on, all at one point.
 fn many(alloc: Global, count: u32) -> Result<Snapshot, Fail> {
     let text = numbered(alloc, DATA, FEATURE, count)?;
     let read = data(alloc, text.as_str());
@@ -82,7 +80,6 @@ fn an_update_of_1001_ids(rt: HostRuntime) -> Result<(), Fail> {
     Ok(())
 }
 
-// The ids from 0 on below 2,100, but for the one that goes, and then the new one.
 fn wanted_ids(alloc: Global) -> Result<Vec<u64>, Fail> {
     let mut ids = Vec::new(alloc);
     for id in 0..2100u64 {
@@ -94,7 +91,6 @@ fn wanted_ids(alloc: Global) -> Result<Vec<u64>, Fail> {
     Ok(ids)
 }
 
-// Whether the feature of the id stands at the place, and is found there.
 fn stands_at(layer: &LayerView<'_>, place: u32, id: u64) -> bool {
     match layer.get(place) {
         Some(feature) => feature.id() == id && layer.place_of(id) == Some(place),
@@ -102,7 +98,6 @@ fn stands_at(layer: &LayerView<'_>, place: u32, id: u64) -> bool {
     }
 }
 
-// Whether the features have these ids, in order.
 fn has_ids(snapshot: &Snapshot, ids: &[u64]) -> bool {
     let Some(layer) = snapshot.layer("land") else {
         return false;
@@ -117,7 +112,6 @@ fn has_ids(snapshot: &Snapshot, ids: &[u64]) -> bool {
     layer.len() == place
 }
 
-// The place of the only feature of the column.
 fn only_place(snapshot: &Snapshot, x: u32) -> Option<u32> {
     let layer = snapshot.layer("land")?;
     let mut walk = layer.near(x, 0, x, 9);
@@ -133,7 +127,6 @@ fn only_place(snapshot: &Snapshot, x: u32) -> Option<u32> {
     }
 }
 
-// Whether one is gone, one changed and one added.
 fn is_changed(alloc: Global, snapshot: &Snapshot) -> Result<bool, Fail> {
     let wanted = wanted_ids(alloc)?;
     Ok(
@@ -143,7 +136,6 @@ fn is_changed(alloc: Global, snapshot: &Snapshot) -> Result<bool, Fail> {
     )
 }
 
-// Whether the ids are those from 0 on below 2,100, and none has moved.
 fn is_unchanged(snapshot: &Snapshot) -> bool {
     let Some(layer) = snapshot.layer("land") else {
         return false;

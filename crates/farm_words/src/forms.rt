@@ -11,7 +11,7 @@ use merc_fixed::{is_tile_size, tile};
 use plain_world::Tile;
 use std::alloc::Global;
 
-/// The number that the text spells in decimal, without sign or leading zeros.
+// The number that the text spells in decimal, without sign or leading zeros.
 fn number(text: &str) -> Option<u64>
     ensures some { IfSome result (λ n. (text.now ≡ decimal n) × (n < 2 ^ 64)) }
     ensures every { (n : ℕ) → n < 2 ^ 64 → text.now ≡ decimal n → result ≡ Some n }
@@ -19,7 +19,6 @@ fn number(text: &str) -> Option<u64>
     line_reading::number(text)
 }
 
-/// The same for numbers of 32 bits.
 fn small_number(text: &str) -> Option<u32>
     ensures some { IfSome result (λ n. text.now ≡ decimal n) }
     ensures every { (n : ℕ) → n < 2 ^ 32 → text.now ≡ decimal n → result ≡ Some n }
@@ -27,7 +26,6 @@ fn small_number(text: &str) -> Option<u32>
     line_reading::small_number(text)
 }
 
-/// The named tile size that the text spells.
 #[tactic(auto, using(plain_world::proofs::Windows::size_bounds))]
 fn tile_size(text: &str) -> Option<u32>
     ensures some { IfSome result (λ n. (text.now ≡ decimal n) × IsTileSize n) }
@@ -37,7 +35,6 @@ fn tile_size(text: &str) -> Option<u32>
     if is_tile_size(size) { Some(size) } else { None }
 }
 
-/// The tile that three texts spell.
 fn spelled_tile(z: &str, x: &str, y: &str) -> Option<Tile>
     ensures some { IfSome result (λ t. (z.now ≡ decimal t.z) × (x.now ≡ decimal t.x) × (y.now ≡ decimal t.y) × IsTile t) }
     ensures every { (t : Tile) → IsTile t → z.now ≡ decimal t.z → x.now ≡ decimal t.x → y.now ≡ decimal t.y → result ≡ Some t }
@@ -48,7 +45,6 @@ fn spelled_tile(z: &str, x: &str, y: &str) -> Option<Tile>
     }
 }
 
-/// `render STYLE DATA T Z X Y`, by the words after the first.
 fn render(alloc: Global, rest: &[&str]) -> Result<Command, WordsFault>
     ensures { Answers (codes "render" ∷ map (λ v. v.now) rest.entry.now) result }
 {
@@ -64,7 +60,6 @@ fn render(alloc: Global, rest: &[&str]) -> Result<Command, WordsFault>
     Ok(Command::Render(Text::of(alloc, style)?, Text::of(alloc, data)?, size, tile))
 }
 
-/// `serve CONFIG`, by the words after the first.
 fn serve(alloc: Global, rest: &[&str]) -> Result<Command, WordsFault>
     ensures { Answers (codes "serve" ∷ map (λ v. v.now) rest.entry.now) result }
 {
@@ -74,7 +69,6 @@ fn serve(alloc: Global, rest: &[&str]) -> Result<Command, WordsFault>
     Ok(Command::Serve(Text::of(alloc, config)?))
 }
 
-/// `script CONFIG SCRIPT`, by the words after the first.
 fn script(alloc: Global, rest: &[&str]) -> Result<Command, WordsFault>
     ensures { Answers (codes "script" ∷ map (λ v. v.now) rest.entry.now) result }
 {
@@ -84,7 +78,6 @@ fn script(alloc: Global, rest: &[&str]) -> Result<Command, WordsFault>
     Ok(Command::Script(Text::of(alloc, config)?, Text::of(alloc, script)?))
 }
 
-/// `load SEED N`, by the words after the first.
 fn load(rest: &[&str]) -> Result<Command, WordsFault>
     ensures { Answers (codes "load" ∷ map (λ v. v.now) rest.entry.now) result }
 {
@@ -100,7 +93,6 @@ fn load(rest: &[&str]) -> Result<Command, WordsFault>
     Ok(Command::Load(seed, features))
 }
 
-/// The number of features, from 1 to 100,000, that the text spells.
 fn feature_count(text: &str) -> Option<u32>
     ensures some { IfSome result (λ n. (text.now ≡ decimal n) × (1 ≤ n) × (n ≤ 100000)) }
     ensures every { (n : ℕ) → 1 ≤ n → n ≤ 100000 → text.now ≡ decimal n → result ≡ Some n }
@@ -111,7 +103,6 @@ fn feature_count(text: &str) -> Option<u32>
     }
 }
 
-/// `meta FILE`, by the words after the first.
 fn meta(alloc: Global, rest: &[&str]) -> Result<Command, WordsFault>
     ensures { Answers (codes "meta" ∷ map (λ v. v.now) rest.entry.now) result }
 {

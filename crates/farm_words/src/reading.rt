@@ -23,7 +23,7 @@ pub fn read_words(alloc: Global, words: &[String]) -> Result<Command, WordsFault
     read_values(alloc, words)
 }
 
-/// The same, without the law on plain words.
+// The same, without the law on plain words.
 fn read_values(alloc: Global, words: &[String]) -> Result<Command, WordsFault>
     ensures given { (values : List (List ℕ)) → values_of (map string_bytes words.now) ≡ Some values → Answers values result }
     ensures none { values_of (map string_bytes words.now) ≡ None → IsRefused result }
@@ -32,7 +32,6 @@ fn read_values(alloc: Global, words: &[String]) -> Result<Command, WordsFault>
     command(alloc, values.as_slice())
 }
 
-/// The values of the words.
 fn values<'a>(alloc: Global, words: &'a [String]) -> Result<Vec<&'a str>, WordsFault>
     ensures ok { IfOk result (λ v. values_of (map string_bytes words.entry.now) ≡ Some (map (λ s. s.now) v.items)) }
     ensures refused { result ≡ Err WordsFault.Refused → values_of (map string_bytes words.entry.now) ≡ None }
@@ -43,7 +42,6 @@ fn values<'a>(alloc: Global, words: &'a [String]) -> Result<Vec<&'a str>, WordsF
     }
 }
 
-/// The values that were read.
 fn gathered<'a>(alloc: Global, matches: &ArgMatches<'a>) -> Result<Vec<&'a str>, WordsFault>
     ensures ok { IfOk result (λ v. map (λ s. s.now) v.items ≡ unwrap_or (all_of (codes "words") (rows_of (found_of matches.entry.now))) []) }
     ensures memory { result ≡ Err WordsFault.Refused → ⊥ }
@@ -55,7 +53,6 @@ fn gathered<'a>(alloc: Global, matches: &ArgMatches<'a>) -> Result<Vec<&'a str>,
     Ok(values)
 }
 
-/// The command line as clap is told of it.
 fn farm_command<'a>(alloc: Global) -> Result<clap::Command<'a>, AllocError>
     ensures { IfOk result (λ c. app_of c ≡ farm_app) }
 {
@@ -66,7 +63,6 @@ fn farm_command<'a>(alloc: Global) -> Result<clap::Command<'a>, AllocError>
         .arg(word)
 }
 
-/// clap's matches of the words.
 fn matched<'a>(alloc: Global, words: &'a [String]) -> Result<ArgMatches<'a>, WordsFault>
     ensures ok { IfOk result (λ m. (fault_of farm_app (map string_bytes words.entry.now) ≡ [])
         × (rows_of (found_of m) ≡ matches_of farm_app (map string_bytes words.entry.now))) }
@@ -79,7 +75,6 @@ fn matched<'a>(alloc: Global, words: &'a [String]) -> Result<ArgMatches<'a>, Wor
     }
 }
 
-/// What an error of clap means; its text is not used.
 fn fault(error: &Error) -> WordsFault
     ensures { (result ≡ WordsFault.NoMemory) ↔ (kind_of error.now ≡ OutOfMemory) }
 {

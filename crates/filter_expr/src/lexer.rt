@@ -50,7 +50,7 @@ pub fn tokens(alloc: Global, text: &str) -> Result<TokenStream, NoMemory>
     Ok(TokenStream::of(stream))
 }
 
-/// The token that begins at this byte, which is no blank, and how many bytes it takes.
+// The token that begins at this byte, which is no blank, and how many bytes it takes.
 #[tactic(auto, using(crate::proofs::Lexes::cuts), unfolding(crate::specs::Lexing::token_at))]
 fn token_at(alloc: Global, text: &str, at: usize) -> Result<(Token, usize), NoMemory>
     requires { at < length text.now }
@@ -73,7 +73,6 @@ fn token_at(alloc: Global, text: &str, at: usize) -> Result<(Token, usize), NoMe
     Ok(sign_at(first, byte_at(bytes, at + 1)))
 }
 
-/// The byte at this place, and 0 past the end.
 fn byte_at(bytes: &[u8], at: usize) -> u8
     ensures { result ≡ slice_index bytes.now at }
 {
@@ -126,7 +125,6 @@ impl Run {
     }
 }
 
-/// How many bytes of this sort stand at the front.
 #[tactic(auto, using(crate::proofs::Lexes::run_goes, crate::proofs::Lexes::run_stops, crate::proofs::Lexes::run_all))]
 fn run_len(run: Run, bytes: &[u8]) -> usize
     ensures { result ≡ prefix_len (run_test run) bytes.now }
@@ -139,7 +137,6 @@ fn run_len(run: Run, bytes: &[u8]) -> usize
     bytes.len()
 }
 
-/// The number at the front.
 #[tactic(auto, unfolding(crate::specs::Lexing::number_token_at))]
 fn number_token_at(bytes: &[u8]) -> (Token, usize)
     ensures { result ≡ number_token_at bytes.now }
@@ -162,7 +159,6 @@ fn number_token(digits: &[u8]) -> Token
     Token::Number(value as i64)
 }
 
-/// The word at the front.
 #[tactic(auto, unfolding(crate::specs::Lexing::word_at))]
 fn word_at(bytes: &[u8]) -> (Token, usize)
     ensures { result ≡ word_at bytes.now }
@@ -192,7 +188,6 @@ fn word_token(word: &[u8]) -> Token
     }
 }
 
-/// The name whose opening bracket stands before this text.
 #[tactic(auto, using(crate::proofs::Lexes::cuts), unfolding(crate::specs::Lexing::name_token_at))]
 fn name_token_at(alloc: Global, rest: &str) -> Result<(Token, usize), NoMemory>
     ensures { IfOk result (λ r. r ≡ name_token_at rest.now) }
@@ -205,7 +200,6 @@ fn name_token_at(alloc: Global, rest: &str) -> Result<(Token, usize), NoMemory>
     Ok((Token::Name(name), count + 2))
 }
 
-/// The string whose opening quote stands before this text.
 #[tactic(auto, using(crate::proofs::Lexes::cuts), unfolding(crate::specs::Lexing::quoted_at))]
 fn quoted_at(alloc: Global, quote: u8, rest: &str) -> Result<(Token, usize), NoMemory>
     requires { quote < 128 }
@@ -218,7 +212,7 @@ fn quoted_at(alloc: Global, quote: u8, rest: &str) -> Result<(Token, usize), NoM
     Ok((Token::Quoted(Text::from_string(text)), count + 2))
 }
 
-/// How many bytes stand before the closing quote; none where it is missing or an escape is unknown.
+// How many bytes stand before the closing quote; none where it is missing or an escape is unknown.
 #[tactic(auto, using(crate::proofs::Lexes::further_none, crate::proofs::Lexes::quoting_escaped, crate::proofs::Lexes::quoting_unknown, crate::proofs::Lexes::quoting_closed, crate::proofs::Lexes::quoting_next, crate::proofs::Lexes::quoting_end))]
 fn quoting_len(quote: u8, bytes: &[u8]) -> Option<usize>
     ensures len { result ≡ quoting_len quote false bytes.now }
@@ -241,7 +235,7 @@ fn quoting_len(quote: u8, bytes: &[u8]) -> Option<usize>
     None
 }
 
-/// The text without the backslashes before escaped bytes.
+// The text without the backslashes before escaped bytes.
 #[tactic(auto, using(crate::proofs::Lexes::cuts, crate::proofs::Lexes::escape_here, crate::proofs::Lexes::escape_none))]
 fn unescaped(alloc: Global, content: &str) -> Result<String, NoMemory>
     ensures { IfOk result (λ s. string_bytes s ≡ quoted_text false content.now) }
@@ -261,7 +255,6 @@ fn unescaped(alloc: Global, content: &str) -> Result<String, NoMemory>
     }
 }
 
-/// How many bytes behind a backslash are an escaped backslash: one or none.
 #[tactic(auto, using(crate::proofs::Lexes::escape_next, crate::proofs::Lexes::escape_other, crate::proofs::Lexes::escape_cut, crate::proofs::Lexes::escape_no_cut))]
 fn escaped_len(text: &str) -> usize
     ensures parts { take result text.now ++ quoted_text false (drop result text.now) ≡ quoted_text true text.now }
@@ -274,7 +267,6 @@ fn escaped_len(text: &str) -> usize
     }
 }
 
-/// The sign that begins with the byte `b`, before the byte `c`.
 #[tactic(auto, unfolding(crate::specs::Lexing::sign_at, crate::specs::Lexing::single, crate::specs::Lexing::less_at))]
 fn sign_at(b: u8, c: u8) -> (Token, usize)
     ensures sign { result ≡ sign_at b c }
@@ -313,7 +305,6 @@ fn sign_at(b: u8, c: u8) -> (Token, usize)
     }
 }
 
-/// The sign that begins with `<`, before the byte `c`.
 #[tactic(auto, unfolding(crate::specs::Lexing::less_at))]
 fn less_at(c: u8) -> (Token, usize)
     ensures sign { result ≡ less_at c }
@@ -328,7 +319,7 @@ fn less_at(c: u8) -> (Token, usize)
     }
 }
 
-/// The sign that is this byte, whatever follows.
+// The sign that is this byte, whatever follows.
 #[tactic(auto, unfolding(crate::specs::Lexing::single))]
 fn single(b: u8) -> Token
     ensures { result ≡ single b }

@@ -80,7 +80,6 @@ fn chain_part(
     }
 }
 
-/// `not` or `!` and a not-part, or a comparison.
 #[cycle(parser)]
 #[tactic(auto, using(crate::proofs::SeenLemmas::nodes), unfolding(crate::specs::Reading::not_in, crate::specs::Reading::within_depth))]
 fn not_part(alloc: Global, stream: &mut TokenStream, depth_left: u32) -> Result<Expr, FilterFault>
@@ -98,7 +97,7 @@ fn not_part(alloc: Global, stream: &mut TokenStream, depth_left: u32) -> Result<
     Ok(Expr::Not(Box::new(alloc, part)?))
 }
 
-/// A sum, then at most one comparing sign and a sum.
+// A sum, then at most one comparing sign and a sum.
 #[cycle(parser)]
 #[tactic(auto, using(crate::proofs::SeenLemmas::nodes), unfolding(crate::specs::Reading::compare_in))]
 fn comparison(alloc: Global, stream: &mut TokenStream, depth_left: u32) -> Result<Expr, FilterFault>
@@ -115,7 +114,6 @@ fn comparison(alloc: Global, stream: &mut TokenStream, depth_left: u32) -> Resul
     Ok(Expr::Compare(a, sign, Box::new(alloc, b)?))
 }
 
-/// A product, then any number of `+` or `-` and a product.
 #[cycle(parser)]
 #[tactic(auto, unfolding(crate::specs::Reading::sum_in))]
 fn sum(alloc: Global, stream: &mut TokenStream, depth_left: u32) -> Result<Expr, FilterFault>
@@ -136,7 +134,6 @@ fn sum(alloc: Global, stream: &mut TokenStream, depth_left: u32) -> Result<Expr,
     Ok(Expr::Sum(first, parts))
 }
 
-/// A unary, then any number of `*`, `/` or `%` and a unary.
 #[cycle(parser)]
 #[tactic(auto, unfolding(crate::specs::Reading::product_in))]
 fn product(alloc: Global, stream: &mut TokenStream, depth_left: u32) -> Result<Expr, FilterFault>
@@ -157,7 +154,6 @@ fn product(alloc: Global, stream: &mut TokenStream, depth_left: u32) -> Result<E
     Ok(Expr::Product(first, parts))
 }
 
-/// `-` and a unary, or an atom.
 #[cycle(parser)]
 #[tactic(auto, using(crate::proofs::SeenLemmas::nodes), unfolding(crate::specs::Reading::unary_in, crate::specs::Reading::within_depth))]
 fn unary(alloc: Global, stream: &mut TokenStream, depth_left: u32) -> Result<Expr, FilterFault>
@@ -175,7 +171,6 @@ fn unary(alloc: Global, stream: &mut TokenStream, depth_left: u32) -> Result<Exp
     Ok(Expr::Negate(Box::new(alloc, part)?))
 }
 
-/// A name, string, number, `true`, `false`, `null`, or a filter in parentheses.
 #[cycle(parser)]
 #[tactic(auto, unfolding(crate::specs::Reading::atom_in, crate::specs::Reading::within_depth))]
 fn atom(alloc: Global, stream: &mut TokenStream, depth_left: u32) -> Result<Expr, FilterFault>

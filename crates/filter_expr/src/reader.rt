@@ -36,7 +36,6 @@ pub fn parse(alloc: Global, text: &str) -> Result<Expr, FilterFault>
     read(alloc, text)
 }
 
-/// The reading of all tokens of the text.
 #[tactic(auto, unfolding(crate::specs::Reading::whole_filter))]
 fn read(alloc: Global, text: &str) -> Result<Expr, FilterFault>
     ensures { Answers seen result (whole_filter (tokens_from 0 0 text.now)) }

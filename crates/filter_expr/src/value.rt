@@ -40,7 +40,6 @@ pub fn attribute<'a>(name: &str, attrs: &'a [Attr]) -> ValueRef<'a>
     ValueRef::Null
 }
 
-/// The value, its text borrowed.
 fn borrowed(v: &Value) -> ValueRef<'_>
     ensures { plain result ≡ v.now }
 {
@@ -100,7 +99,6 @@ pub fn compares(sign: CompareSign, v: ValueRef<'_>, w: ValueRef<'_>) -> bool
     }
 }
 
-/// The number, or null for none.
 fn number<'a>(n: Option<i64>) -> ValueRef<'a>
     ensures { plain result ≡ plain_number n }
 {
@@ -137,8 +135,8 @@ pub fn product_of<'a>(sign: ProductSign, v: ValueRef<'a>, w: ValueRef<'a>) -> Va
     }
 }
 
-/// The rest of the division with the dividend's sign; none for the divisor 0. The rest by -1 is 0 also
-/// where the quotient has no room.
+// The rest of the division with the dividend's sign; none for the divisor 0. The rest by -1 is 0 also
+// where the quotient has no room.
 fn rest(x: i64, y: i64) -> Option<i64>
     ensures { plain_number result ≡ divided_by y (whole_or_null (int_rem x y)) }
 {

@@ -10,7 +10,7 @@ use crate::value::{ValueRef, attribute, compares, negated, product_of, sum_of, t
 use farm_base::Attr;
 use plain_filters::{Expr, ProductPart, SumPart};
 
-/// The value of the filter for these attributes; takes no memory. Operators are those of Mapnik's
+/// The value of the filter for these attributes. Operators are those of Mapnik's
 /// filter expressions, with values of this farm's own: null, truth values, whole numbers and texts.
 #[cycle(eval)]
 #[tactic(auto, using(crate::proofs::Nodes::nodes))]
@@ -35,7 +35,6 @@ pub fn eval<'a>(e: &'a Expr, attrs: &'a [Attr]) -> ValueRef<'a>
     }
 }
 
-/// Whether one of the parts counts as true.
 #[cycle(eval)]
 #[tactic(auto, using(crate::proofs::Turns::any_yes, crate::proofs::Turns::any_no))]
 fn any_of(parts: &[Expr], attrs: &[Attr]) -> bool
@@ -49,7 +48,6 @@ fn any_of(parts: &[Expr], attrs: &[Attr]) -> bool
     false
 }
 
-/// Whether each of the parts counts as true.
 #[cycle(eval)]
 #[tactic(auto, using(crate::proofs::Turns::all_yes, crate::proofs::Turns::all_no))]
 fn all_of(parts: &[Expr], attrs: &[Attr]) -> bool
@@ -63,7 +61,6 @@ fn all_of(parts: &[Expr], attrs: &[Attr]) -> bool
     true
 }
 
-/// The first value of a sum with its later parts taken in, from the left.
 #[cycle(eval)]
 #[tactic(auto, using(crate::proofs::Turns::sum_here))]
 fn after_sums<'a>(first: ValueRef<'a>, parts: &'a [SumPart], attrs: &'a [Attr]) -> ValueRef<'a>
@@ -76,7 +73,6 @@ fn after_sums<'a>(first: ValueRef<'a>, parts: &'a [SumPart], attrs: &'a [Attr]) 
     v
 }
 
-/// The first value of a product with its later parts taken in, from the left.
 #[cycle(eval)]
 #[tactic(auto, using(crate::proofs::Turns::product_here))]
 fn after_products<'a>(
@@ -93,7 +89,7 @@ fn after_products<'a>(
     v
 }
 
-/// The value of one side of a comparison. Most are names and constants, which need no walk.
+// The value of one side of a comparison. Most are names and constants, which need no walk.
 #[tactic(auto, using(crate::proofs::Nodes::nodes))]
 fn side<'a>(e: &'a Expr, attrs: &'a [Attr]) -> ValueRef<'a>
     ensures { plain result ≡ tree_value attrs.now (tree_of e.now) }
@@ -106,7 +102,7 @@ fn side<'a>(e: &'a Expr, attrs: &'a [Attr]) -> ValueRef<'a>
     }
 }
 
-/// Whether the filter's value counts as true for these attributes; takes no memory.
+/// Whether the filter's value counts as true for these attributes.
 #[tactic(auto, using(crate::proofs::Nodes::nodes))]
 pub fn holds(e: &Expr, attrs: &[Attr]) -> bool
     ensures { result ≡ tree_holds attrs.now (tree_of e.now) }

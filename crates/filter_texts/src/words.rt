@@ -10,7 +10,6 @@ ghost use Rattle.filter_texts.specs.inner.Pieces.{with_space, escaped_char};
 use farm_base::NoMemory;
 use plain_filters::{CompareSign, Expr, ProductSign, SumSign};
 
-/// The space before the next word; none before the first.
 fn put_space(out: &mut String) -> Result<(), NoMemory>
     ensures { OnOk result (string_bytes out.new ≡ with_space (string_bytes out.old)) }
 {
@@ -52,7 +51,6 @@ pub fn put_quoted(out: &mut String, text: &str) -> Result<(), NoMemory>
     Ok(())
 }
 
-/// The text with a backslash before each single quote and each backslash.
 fn put_escaped(out: &mut String, text: &str) -> Result<(), NoMemory>
     ensures { OnOk result (string_bytes out.new ≡ string_bytes out.old ++ escaped_text text.now) }
 {
@@ -62,7 +60,6 @@ fn put_escaped(out: &mut String, text: &str) -> Result<(), NoMemory>
     Ok(())
 }
 
-/// One character of a text between single quotes.
 fn put_char(out: &mut String, c: char) -> Result<(), NoMemory>
     ensures { OnOk result (string_bytes out.new ≡ string_bytes out.old ++ escaped_char c) }
 {

@@ -30,7 +30,7 @@ pub fn write(alloc: Global, e: &Expr) -> Result<Text, NoMemory>
     Ok(Text::from_string(out))
 }
 
-/// The filter behind what was written, in parentheses where it binds more weakly than `least`.
+// The filter behind what was written, in parentheses where it binds more weakly than `least`.
 #[cycle(writer)]
 #[tactic(auto, using(crate::proofs::Pieces::put_bare, crate::proofs::Pieces::put_guarded))]
 fn put(out: &mut String, e: &Expr, least: u32) -> Result<(), NoMemory>
@@ -44,7 +44,7 @@ fn put(out: &mut String, e: &Expr, least: u32) -> Result<(), NoMemory>
     put_word(out, ")")
 }
 
-/// The filter behind what was written, without parentheses of its own.
+// The filter behind what was written, without parentheses of its own.
 #[cycle(writer)]
 #[tactic(auto, using(crate::proofs::Pieces::forms))]
 fn put_form(out: &mut String, e: &Expr) -> Result<(), NoMemory>
@@ -82,7 +82,6 @@ fn put_form(out: &mut String, e: &Expr) -> Result<(), NoMemory>
     }
 }
 
-/// Parts with the word between each two; for none an empty word.
 #[cycle(writer)]
 #[tactic(auto, using(crate::proofs::Pieces::part_here, crate::proofs::Pieces::list_begins))]
 fn put_list(out: &mut String, parts: &[Expr], word: &str, least: u32) -> Result<(), NoMemory>
@@ -99,7 +98,6 @@ fn put_list(out: &mut String, parts: &[Expr], word: &str, least: u32) -> Result<
     Ok(())
 }
 
-/// The later parts of a sum, each behind its sign.
 #[cycle(writer)]
 #[tactic(auto, using(crate::proofs::Pieces::term_here))]
 fn put_sums(out: &mut String, parts: &[SumPart]) -> Result<(), NoMemory>
@@ -112,7 +110,6 @@ fn put_sums(out: &mut String, parts: &[SumPart]) -> Result<(), NoMemory>
     Ok(())
 }
 
-/// The later parts of a product, each behind its sign.
 #[cycle(writer)]
 #[tactic(auto, using(crate::proofs::Pieces::term_here))]
 fn put_products(out: &mut String, parts: &[ProductPart]) -> Result<(), NoMemory>

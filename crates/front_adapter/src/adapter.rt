@@ -35,8 +35,8 @@ impl<'a, D: TileStore, B> Drop for FarmAdapter<'a, D, B> {
     }
 }
 
-/// Wakes the workers where the ask may have put a metatile in a queue. What it joined or lifted waited
-/// or was being drawn already, and was woken for then. It promises nothing.
+// Wakes the workers where the ask may have put a metatile in a queue. What it joined or lifted waited
+// or was being drawn already, and was woken for then. It promises nothing.
 fn wake_for(answer: Result<AskAnswer, Worn>, workers: &[Unparker]) {
     if !may_queue(answer) {
         return;
@@ -46,7 +46,6 @@ fn wake_for(answer: Result<AskAnswer, Worn>, workers: &[Unparker]) {
     }
 }
 
-/// Whether an ask that was answered so may have put a metatile in a queue.
 fn may_queue(answer: Result<AskAnswer, Worn>) -> bool {
     matches!(
         answer,

@@ -21,7 +21,6 @@ use farm_history::Conn;
 use port_events::Ports;
 use std::sync::Wait;
 
-/// Whether a session leaves.
 fn leaves(disposition: Disposition) -> bool
     ensures { result ≡ spec.leaves disposition }
 {
@@ -31,7 +30,6 @@ fn leaves(disposition: Disposition) -> bool
     }
 }
 
-/// The first place of a session that leaves.
 fn first_leaving<T>(sessions: &[Session<T>]) -> Option<usize>
     ensures { result ≡ position (λ (s : Session T). spec.leaves s.disposition) sessions.now }
 {
@@ -40,7 +38,7 @@ fn first_leaving<T>(sessions: &[Session<T>]) -> Option<usize>
         .position(|session| leaves(session.disposition))
 }
 
-/// A session that leaves: its place, its connection, and why.
+// A session that leaves: its place, its connection, and why.
 fn leaving<T>(sessions: &[Session<T>]) -> Option<(usize, u32, Reason)>
     ensures some { IfSome result (λ p. IsLeaving sessions.now p.0 p.1 p.2) }
     ensures none { IfNone result (Each StaysOn sessions.now) }
@@ -54,14 +52,14 @@ fn leaving<T>(sessions: &[Session<T>]) -> Option<(usize, u32, Reason)>
     }
 }
 
-/// Whether the connection is still open in the ports.
+// Whether the connection is still open in the ports.
 fn is_open(why: Reason) -> bool
     ensures { result ≡ is_up (disposition.Leaves why) }
 {
     !matches!(why, Reason::Lost | Reason::SendFailed)
 }
 
-/// Closes the connection, if it is still open.
+// Closes the connection, if it is still open.
 fn shut<P: Ports>(ports: &mut P, conn: u32, why: Reason)
     requires { is_up (disposition.Leaves why) ≡ true → IsOpen conn (P.state ports.old).told }
     ensures told { Shuts conn why (P.state ports.old).told (P.state ports.new).told }
@@ -72,7 +70,6 @@ fn shut<P: Ports>(ports: &mut P, conn: u32, why: Reason)
     }
 }
 
-/// The count of the starved after a connection was left.
 fn starved_after(starved: u64, why: Reason) -> u64
     ensures { result ≡ min (with_starved starved why) (2 ^ 64 - 1) }
 {
@@ -82,7 +79,6 @@ fn starved_after(starved: u64, why: Reason) -> u64
     }
 }
 
-/// Leaves the connection of the session at this place.
 fn close_one<R: Wait, M: Farm, F: Front<M>, P: Ports>(
     work: &Context<'_, R, M, F>,
     seat: &mut M::Seat,

@@ -17,7 +17,6 @@ use farm_base::Worn;
 use farm_history::{Collected, Outcome, Reply};
 use std::sync::Wait;
 
-/// Of an earlier disposition and a later one: the later, if it is an end.
 fn worse_of(old: Disposition, new: Disposition) -> Disposition
     ensures { result ≡ worse old new }
 {
@@ -27,7 +26,6 @@ fn worse_of(old: Disposition, new: Disposition) -> Disposition
     }
 }
 
-/// A reply comes for one session.
 fn reply_one<R: Wait, M: Farm, F: Front<M>>(
     work: &Context<'_, R, M, F>,
     seat: &mut M::Seat,
@@ -60,7 +58,6 @@ fn reply_one<R: Wait, M: Farm, F: Front<M>>(
     Ok(())
 }
 
-/// One Collect, with all that its reply makes.
 fn collect_one<R: Wait, M: Farm, F: Front<M>>(
     work: &Context<'_, R, M, F>,
     seat: &mut M::Seat,

@@ -65,7 +65,6 @@ pub fn settle(
     }
 }
 
-/// A piece is heard on one session.
 fn hear_one<R: Wait, M: Farm, F: Front<M>>(
     work: &Context<'_, R, M, F>,
     seat: &mut M::Seat,
@@ -97,7 +96,6 @@ fn hear_one<R: Wait, M: Farm, F: Front<M>>(
     Ok(())
 }
 
-/// A piece came on a connection.
 fn hear<R: Wait, M: Farm, F: Front<M>>(
     work: &Context<'_, R, M, F>,
     seat: &mut M::Seat,
@@ -124,7 +122,6 @@ fn hear<R: Wait, M: Farm, F: Front<M>>(
     )
 }
 
-/// Makes a session of a connection that is not there, if there is memory for it.
 fn add<T: Drop>(
     alloc: Global,
     table: &mut SessionTable<T>,
@@ -151,8 +148,8 @@ fn add<T: Drop>(
     Ok(())
 }
 
-/// Makes a session of a connection, unless it is there, or 1,024 are, or memory is wanting; answers
-/// whether it did.
+// Makes a session of a connection, unless it is there, or 1,024 are, or memory is wanting; answers
+// whether it did.
 fn admit<R, M: Farm, F: Front<M>>(
     work: &Context<'_, R, M, F>,
     table: &mut SessionTable<F::ConnState>,
@@ -178,7 +175,6 @@ fn admit<R, M: Farm, F: Front<M>>(
     }
 }
 
-/// The count of the starved after a connection was refused.
 fn refused_after(starved: u64, there: usize) -> u64
     ensures { result ≡ cond (nat_lt there most_sessions) (min (starved + 1) (2 ^ 64 - 1)) starved }
 {
@@ -189,7 +185,6 @@ fn refused_after(starved: u64, there: usize) -> u64
     }
 }
 
-/// Closes a connection that got no session.
 fn refuse<T, P: Ports>(table: &mut SessionTable<T>, ports: &mut P, conn: u32)
     requires { IsOpen conn (P.state ports.old).told }
     ensures told { (P.state ports.new).told ≡ option_map (after_close conn) (P.state ports.old).told }
@@ -202,7 +197,6 @@ fn refuse<T, P: Ports>(table: &mut SessionTable<T>, ports: &mut P, conn: u32)
     table.starved = refused_after(table.starved, table.sessions.len());
 }
 
-/// A connection was opened: it gets a session, or is closed.
 fn open<R, M: Farm, F: Front<M>, P: Ports>(
     work: &Context<'_, R, M, F>,
     table: &mut SessionTable<F::ConnState>,
@@ -220,7 +214,6 @@ fn open<R, M: Farm, F: Front<M>, P: Ports>(
     }
 }
 
-/// The session as its Writable, its Ended or its Lost leaves it.
 fn mark<T>(session: &mut Session<T>, event: PortEvent)
     ensures { session.new ≡ marked event session.old }
 {
@@ -232,7 +225,6 @@ fn mark<T>(session: &mut Session<T>, event: PortEvent)
     }
 }
 
-/// The session of a connection as its Writable, its Ended or its Lost leaves it.
 fn mark_at<T>(table: &mut SessionTable<T>, event: PortEvent, conn: u32)
     ensures { MarksAt event conn table.old table.new }
 {
@@ -291,7 +283,6 @@ pub fn take_event<R: Wait, M: Farm, F: Front<M>, P: Ports>(
     }
 }
 
-/// Every session owes an offer.
 fn wake_each<T>(sessions: &mut [Session<T>])
     ensures { sessions.new ≡ map woken sessions.old }
 {

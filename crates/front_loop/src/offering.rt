@@ -29,7 +29,6 @@ pub enum Gave {
     NoMemory,
 }
 
-/// Offers the connection its rest.
 fn give<P: Ports>(outbox: &mut Outbox, conn: u32, ports: &mut P) -> Gave
     requires rest { HasRest outbox.old conn }
     requires open { IsOpen conn (P.state ports.old).told }
@@ -46,7 +45,6 @@ fn give<P: Ports>(outbox: &mut Outbox, conn: u32, ports: &mut P) -> Gave
     }
 }
 
-/// Whether all is taken.
 fn gave_by(outbox: &Outbox, conn: u32) -> Gave
     requires { HasRest outbox.now conn }
     ensures { result ≡ part_or_all (rest_in outbox.now conn) }
@@ -58,7 +56,6 @@ fn gave_by(outbox: &Outbox, conn: u32) -> Gave
     }
 }
 
-/// The disposition of a session after an offer.
 fn disposition_of_offer(gave: Gave, done: bool, disposition: Disposition) -> Disposition
     ensures { result ≡ disposition_after gave done disposition }
 {
@@ -76,7 +73,6 @@ fn disposition_of_offer(gave: Gave, done: bool, disposition: Disposition) -> Dis
     }
 }
 
-/// Offers one session its bytes, if it owes that.
 fn offer_one<R, M: Farm, F: Front<M>, P: Ports>(
     work: &Context<'_, R, M, F>,
     session: &mut Session<F::ConnState>,

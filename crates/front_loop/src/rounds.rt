@@ -21,7 +21,6 @@ use port_events::{FrontDone, FrontEnd, PortEvent, Ports};
 use std::alloc::Global;
 use std::sync::Wait;
 
-/// How the front ends after a round, if it does.
 fn end_after(event: PortEvent, stopped: bool) -> Option<FrontEnd>
     ensures end { result ≡ end_of event stopped }
     ensures unbroken { result ≢ Some ended.Broken }
@@ -35,7 +34,6 @@ fn end_after(event: PortEvent, stopped: bool) -> Option<FrontEnd>
     }
 }
 
-/// How the front ends at an event that begins no round.
 fn early_end(event: PortEvent) -> Option<FrontEnd>
     ensures { EndsEarly event result }
 {
@@ -46,7 +44,6 @@ fn early_end(event: PortEvent) -> Option<FrontEnd>
     }
 }
 
-/// A round, from its event on.
 fn play<R: Wait, M: Farm, F: Front<M>, P: Ports>(
     work: &Context<'_, R, M, F>,
     seat: &mut M::Seat,
@@ -78,7 +75,6 @@ fn play<R: Wait, M: Farm, F: Front<M>, P: Ports>(
     Ok(end_after(came.event, stopped))
 }
 
-/// One event, and the round that begins with it.
 fn round<R: Wait, M: Farm, F: Front<M>, P: Ports>(
     work: &Context<'_, R, M, F>,
     seat: &mut M::Seat,
@@ -105,7 +101,6 @@ fn round<R: Wait, M: Farm, F: Front<M>, P: Ports>(
     }
 }
 
-/// Rounds until the front ends.
 fn run<R: Wait, M: Farm, F: Front<M>, P: Ports>(
     work: &Context<'_, R, M, F>,
     seat: &mut M::Seat,
@@ -132,7 +127,7 @@ fn run<R: Wait, M: Farm, F: Front<M>, P: Ports>(
     unreachable!()
 }
 
-/// A front that ends otherwise than Finished stops the farm.
+// A front that ends otherwise than Finished stops the farm.
 fn stop_after<R: Wait, M: Farm>(rt: &R, farm: &M, seat: &mut M::Seat, end: FrontEnd) -> FrontEnd
     requires { (M.seats farm.now).is_seat seat.old }
     ensures seat { SameSeat (M.seats farm.now) seat.old seat.new }
@@ -148,7 +143,6 @@ fn stop_after<R: Wait, M: Farm>(rt: &R, farm: &M, seat: &mut M::Seat, end: Front
     }
 }
 
-/// All rounds, and the front's end.
 fn serve_at<R: Wait, M: Farm, F: Front<M>, P: Ports>(
     work: &Context<'_, R, M, F>,
     seat: &mut M::Seat,

@@ -56,7 +56,6 @@ impl<T> SessionTable<T> {
     }
 }
 
-/// The first place of a connection's session.
 fn position_of<T>(sessions: &[Session<T>], conn: u32) -> Option<usize>
     ensures { result ≡ position (λ (s : Session T). s.conn == conn) sessions.now }
 {

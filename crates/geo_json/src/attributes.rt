@@ -27,7 +27,6 @@ fn attr_value(alloc: Global, value: &Value, shape: DataFault) -> Result<farm_bas
     }
 }
 
-/// The attribute of the key and the value.
 #[tactic(auto, unfolding(crate::specs::Attributes::attr_of))]
 fn attr(alloc: Global, key: &str, value: &Value, shape: DataFault) -> Result<Attr, DataFault>
     ensures value { Gives fault.NoMemory (λ a. a) (spec.attr_of shape key.now (view value.now)) result }
@@ -61,7 +60,6 @@ fn attrs(
     Ok(attrs)
 }
 
-/// The attributes that the value says, of distinct names.
 #[tactic(auto, unfolding(crate::specs::Attributes::attrs_of))]
 fn attrs_of(alloc: Global, value: &Value, shape: DataFault) -> Result<Vec<Attr>, DataFault>
     ensures value { Gives fault.NoMemory (λ v. v.items) (spec.attrs_of shape (view value.now)) result }

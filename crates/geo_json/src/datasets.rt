@@ -36,8 +36,8 @@ pub fn read_data(alloc: Global, bytes: &[u8]) -> Result<Dataset, DataFault>
     Ok(Dataset::of(layers))
 }
 
-/// The layers that the bytes say: pulled from the text, and where that comes to no end, read from the tree of
-/// the text, which knows the first fault.
+// The layers that the bytes say: pulled from the text, and where that comes to no end, read from the tree of
+// the text, which knows the first fault.
 fn read_layers(alloc: Global, bytes: &[u8]) -> Result<Vec<Layer>, DataFault>
     ensures value { Gives fault.NoMemory (λ v. v.items) (spec.dataset_in bytes.now) result }
     ensures valid { IfOk result (λ v. IsTrue (each_after spec.is_read [] v.items)) }
@@ -110,7 +110,6 @@ fn open_layer(object: &Value, shape: DataFault) -> Result<(), DataFault>
     open(object, &["name", "features"], shape)
 }
 
-/// The layer that the value says, after those before it.
 #[tactic(auto, unfolding(crate::specs::DataTexts::layer_said), using(crate::proofs::Validity::values_few))]
 fn layer(alloc: Global, units: Units, before: &[Layer], object: &Value) -> Result<Layer, DataFault>
     ensures value { Gives fault.NoMemory (λ l. l)

@@ -60,7 +60,7 @@ fn geometry_at(
     }
 }
 
-/// The feature of the parts, whose attributes have distinct names, or their first fault.
+// The feature of the parts, whose attributes have distinct names, or their first fault.
 #[tactic(auto, using(crate::proofs::Parts::no_double))]
 fn made_of(
     part: u32,
@@ -78,7 +78,6 @@ fn made_of(
     }
 }
 
-/// The same, as one check after another.
 #[tactic(auto, using(crate::proofs::Parts::made_checked))]
 fn made(
     part: u32,

@@ -31,7 +31,6 @@ fn points(
     read_list(alloc, &PointItems { units, shape }, items)
 }
 
-/// The list of points that the value says.
 #[tactic(auto, unfolding(crate::specs::Geometries::path_points))]
 fn path(alloc: Global, units: Units, value: &Value, shape: DataFault) -> Result<Path, DataFault>
     ensures { Gives fault.NoMemory (λ p. p) (spec.path_points units shape (view value.now)) result }
@@ -53,7 +52,6 @@ fn read_paths(
     read_list(alloc, &PathItems { units, shape }, items)
 }
 
-/// The lines or rings that the value says.
 #[tactic(auto, unfolding(crate::specs::Geometries::paths_of))]
 fn paths(
     alloc: Global,

@@ -24,7 +24,6 @@ pub(crate) fn open(object: &Value, names: &[&str], shape: DataFault) -> Result<(
     opened(object, shape, shape, names)
 }
 
-/// The name that the value says.
 #[tactic(auto, unfolding(crate::specs::Openings::name_of))]
 fn name_of(value: &Value, shape: DataFault) -> Result<&str, DataFault>
     ensures value { seen (λ s. s.now) result ≡ spec.name_of shape (view value.entry.now) }

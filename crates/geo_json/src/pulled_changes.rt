@@ -20,7 +20,6 @@ use plain_shapes::MOST_FEATURES;
 use pulled_json::{PullItem, PullMember, pull_list, pull_object, value_from};
 use std::alloc::Global;
 
-/// The next value as an id.
 fn id_from(alloc: Global, part: u32, reader: &mut Reader<'_>, depth: usize) -> Option<u64>
     ensures value { IfSome result (λ id. (d : Data) × (converted of_json (value depth reader.old) ≡ Some (d, reader.new))
         × (features.id_of (Shape part 0) d ≡ Ok id)) }
@@ -64,7 +63,6 @@ impl PullItem for PulledIds {
     }
 }
 
-/// The next value as a feature after those before it, which may have its id.
 fn put_from(
     alloc: Global,
     place: Place,
@@ -167,7 +165,6 @@ impl PullMember for PulledMembers {
     }
 }
 
-/// The items, or none where no list is told.
 fn or_none<T: Drop>(alloc: Global, told: Option<Vec<T>>) -> Vec<T>
     ensures { unwrap_or (option_map (λ v. v.items) told) [] ≡ result.items }
 {
@@ -177,7 +174,6 @@ fn or_none<T: Drop>(alloc: Global, told: Option<Vec<T>>) -> Vec<T>
     }
 }
 
-/// The change of the parts, if they name a layer.
 fn change_of(alloc: Global, parts: ChangeParts) -> Option<Change>
     ensures { IfSome result (λ c. (parts.layer ≡ Some c.layer)
         × (unwrap_or (option_map (λ v. v.items) parts.remove) [] ≡ c.remove)
@@ -194,7 +190,6 @@ fn change_of(alloc: Global, parts: ChangeParts) -> Option<Change>
     }
 }
 
-/// The next value as a change after those before it.
 fn change_from(
     alloc: Global,
     units: Units,

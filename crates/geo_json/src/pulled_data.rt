@@ -61,7 +61,6 @@ impl PullMember for PulledMembers {
     }
 }
 
-/// The layers of data in these units. Units that are not told are centimetres.
 fn layers_of(units: Units, parts: DataParts) -> Option<Vec<Layer>>
     ensures { IfSome result (λ v. (option_map (λ w. w.items) parts.layers ≡ Some v.items) × (parts.told ≡ false → units ≡ Centimetres)) }
 {
@@ -71,7 +70,7 @@ fn layers_of(units: Units, parts: DataParts) -> Option<Vec<Layer>>
     parts.layers
 }
 
-/// The layers that the bytes say in these units; or else whether they tell other units.
+// The layers that the bytes say in these units; or else whether they tell other units.
 fn layers_in(
     alloc: Global,
     units: Units,

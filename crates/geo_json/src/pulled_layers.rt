@@ -43,7 +43,7 @@ pub(crate) fn name_from(alloc: Global, reader: &mut Reader<'_>) -> Option<Text>
     Text::of(alloc, name).ok()
 }
 
-/// The next value as a feature after those before it, whose ids are known.
+// The next value as a feature after those before it, whose ids are known.
 fn feature_from(
     alloc: Global,
     place: Place,
@@ -141,7 +141,6 @@ impl PullMember for PulledMembers {
     }
 }
 
-/// The layer of the parts, if they are all there and no layer before has its name.
 fn layer_of(before: &[Layer], parts: LayerParts) -> Option<Layer>
     ensures { IfSome result (λ l. (parts.name ≡ Some l.name) × (option_map (λ v. v.items) parts.features ≡ Some l.features)
         × (spec.has_layer before.now l.name ≡ false)) }
@@ -158,7 +157,6 @@ fn layer_of(before: &[Layer], parts: LayerParts) -> Option<Layer>
     }
 }
 
-/// The next value as a layer after those before it.
 fn layer_from(
     alloc: Global,
     units: Units,

@@ -60,7 +60,7 @@ impl PullMember for PulledMembers {
     }
 }
 
-/// The changes of an update in these units. Units that are not told are centimetres.
+// The changes of an update in these units. Units that are not told are centimetres.
 fn changes_of(units: Units, parts: UpdateParts) -> Option<Vec<Change>>
     ensures { IfSome result (λ v. (option_map (λ w. w.items) parts.changes ≡ Some v.items) × (parts.told ≡ false → units ≡ Centimetres)) }
 {
@@ -70,7 +70,7 @@ fn changes_of(units: Units, parts: UpdateParts) -> Option<Vec<Change>>
     parts.changes
 }
 
-/// The changes that the bytes say in these units; or else whether they tell other units.
+// The changes that the bytes say in these units; or else whether they tell other units.
 fn changes_in(
     alloc: Global,
     units: Units,

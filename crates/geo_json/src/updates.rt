@@ -112,7 +112,6 @@ fn open_change(object: &Value, shape: DataFault) -> Result<(), DataFault>
     open(object, &["layer", "remove", "put"], shape)
 }
 
-/// The change that the value says, at its place in the update.
 #[tactic(auto, unfolding(crate::specs::UpdateTexts::change_at), using(crate::proofs::Validity::values_few))]
 fn change(
     alloc: Global,

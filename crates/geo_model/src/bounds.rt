@@ -29,7 +29,7 @@ impl Bounds {
     }
 }
 
-/// The rectangle widened so that it holds the point too.
+// The rectangle widened so that it holds the point too.
 fn widened(b: Bounds, p: Point) -> Bounds
     ensures { result ≡ box_with b p }
 {
@@ -41,7 +41,6 @@ fn widened(b: Bounds, p: Point) -> Bounds
     }
 }
 
-/// The rectangle widened by each point of the path.
 fn widened_by(b: Bounds, path: &Path) -> Bounds
     ensures { result ≡ fold box_with b path.now }
 {

@@ -68,7 +68,6 @@ pub(crate) fn keep(head: &mut Vec<u8>, piece: &[u8]) -> Result<(), NoMemory>
     Ok(())
 }
 
-/// The part of a piece that is read behind a head.
 fn part_for<'a>(piece: &'a [u8], head: &[u8]) -> &'a [u8]
     ensures { result.now ≡ take (most_head_bytes - length head.now) piece.entry.now }
 {

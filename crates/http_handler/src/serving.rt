@@ -36,7 +36,6 @@ pub(crate) fn http_ask_in<M: Farm>(farm: &M, bytes: &[u8]) -> Option<HttpAsk>
     }
 }
 
-/// What a target asks of a spot.
 fn http_ask_of(kind: Kind, spot: Spot) -> HttpAsk
     ensures { result ≡ spec.http_ask_of kind spot }
 {
@@ -47,7 +46,6 @@ fn http_ask_of(kind: Kind, spot: Spot) -> HttpAsk
     }
 }
 
-/// The spot of a place.
 fn spot_of<M: Farm>(farm: &M, name: &str, z: u32, x: u32, y: u32) -> Spot
     ensures { result ≡ place_spot (M.map_at farm.now)
         (record { name = name.now; z = z; x = x; y = y }) }
@@ -95,7 +93,6 @@ pub(crate) fn serve_http_ask<R: Wait, M: Farm>(
     }
 }
 
-/// Answers a fault.
 fn refuse(alloc: Global, fault: Fault, stage: &mut Stage, response: &mut Vec<u8>) -> Disposition
     requires { response.old.items ≡ [] }
     ensures stage { stage.new ≡ Stage.Answered }
@@ -105,7 +102,6 @@ fn refuse(alloc: Global, fault: Fault, stage: &mut Stage, response: &mut Vec<u8>
     disposition_of_put(put_fault(alloc, fault, response))
 }
 
-/// Asks for a tile, and fetches it where it need not be waited for.
 fn serve_tile<R: Wait, M: Farm>(
     context: &Context<'_, R, M, Tiles>,
     seat: &mut M::Seat,
@@ -137,7 +133,6 @@ fn serve_tile<R: Wait, M: Farm>(
     }
 }
 
-/// The number of an ask that waits.
 fn number_in(answer: AskAnswer) -> Option<u64>
     ensures { result ≡ past.number_in answer }
 {
@@ -171,7 +166,6 @@ pub(crate) fn fetch_and_say<R: Wait, M: Farm>(
     Ok(say_tile(context.alloc, &fetched, response))
 }
 
-/// Puts the answer to a tile that was fetched; want of memory has none.
 fn say_tile(alloc: Global, fetched: &Fetched, response: &mut Vec<u8>) -> Disposition
     requires { response.old.items ≡ [] }
     ensures { SaysTile fetched.now response.new.items result }
@@ -182,7 +176,6 @@ fn say_tile(alloc: Global, fetched: &Fetched, response: &mut Vec<u8>) -> Disposi
     disposition_of_put(put_tile(alloc, fetched, response))
 }
 
-/// A session whose answer found no memory is left.
 fn disposition_of_put(put: Result<(), NoMemory>) -> Disposition
     ensures { MatchResult put (λ _. result ≡ Disposition.Stays)
         (λ _. result ≡ Disposition.Leaves Reason.Starved) }

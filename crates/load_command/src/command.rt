@@ -20,7 +20,6 @@ use std::alloc::Global;
 use tile_store::TileStore;
 use work_gen::{Step, plan, steps};
 
-/// Runs these steps one after another, and sums them up.
 fn run_steps<D: TileStore>(
     alloc: Global,
     farm: &mut Farm<D>,
@@ -43,7 +42,6 @@ fn run_steps<D: TileStore>(
     Ok(totals)
 }
 
-/// Puts the line, and tells whether a call of the store failed.
 fn tell<O: Sink>(out: &mut O, line: &str, failed: bool) -> Result<(), Stop>
     ensures { TellsLine (O.state out.old) (O.state out.new) line.now failed result }
 {
@@ -54,7 +52,7 @@ fn tell<O: Sink>(out: &mut O, line: &str, failed: bool) -> Result<(), Stop>
     Ok(())
 }
 
-/// Runs all steps of the work on a farm that just began, and puts the line that sums it up.
+// Runs all steps of the work on a farm that just began, and puts the line that sums it up.
 fn work_on<D: TileStore, O: Sink>(
     alloc: Global,
     farm: &mut Farm<D>,
@@ -78,7 +76,6 @@ fn work_on<D: TileStore, O: Sink>(
     }
 }
 
-/// Runs the work on a farm of its plan that just began, and hands its store back.
 fn run_on<D: TileStore, O: Sink>(
     alloc: Global,
     farm: Farm<D>,

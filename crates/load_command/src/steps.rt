@@ -34,7 +34,6 @@ pub(crate) struct StepSeen {
     pub(crate) failed: bool,
 }
 
-/// Expires the step's tile, if it is so marked.
 fn expire_marked<D: TileStore>(farm: &mut Farm<D>, step: Step)
     requires stands { (store_tells : Bool) × (g : List Entry) × StandsFor D.state store_tells farm.old g × (weight g < most_turns) }
     requires tile { IsTile (spot_tile step.spot) }
@@ -47,7 +46,6 @@ fn expire_marked<D: TileStore>(farm: &mut Farm<D>, step: Step)
     }
 }
 
-/// Whether there was no memory for the end of a drawing.
 fn is_wanting(answer: Finished) -> bool
     ensures yes { result ≡ true → answer ≡ finished.NoMemory }
     ensures no { result ≡ false → answer ≢ finished.NoMemory }
@@ -58,7 +56,7 @@ fn is_wanting(answer: Finished) -> bool
     }
 }
 
-/// Claims what waits first; a job is drawn and finished. Answers whether its put failed.
+// Claims what waits first; a job is drawn and finished. Answers whether its put failed.
 fn draw_next<D: TileStore>(alloc: Global, farm: &mut Farm<D>) -> Result<bool, NoMemory>
     requires stands { (store_tells : Bool) × (g : List Entry) × StandsFor D.state store_tells farm.old g × (weight g < most_turns) }
     ensures grows { (store_tells : Bool) (g : List Entry) (step : Step) → StandsFor D.state store_tells farm.old g → Grows D.state store_tells farm.new (weight g + 2) (Draws step g result) }
@@ -79,7 +77,6 @@ fn draw_next<D: TileStore>(alloc: Global, farm: &mut Farm<D>) -> Result<bool, No
     Ok(is_failed_finish(answer))
 }
 
-/// Collects the replies of front 0 until there is none.
 fn collect_all<D: TileStore>(farm: &mut Farm<D>)
     requires stands { (store_tells : Bool) × (g : List Entry) × StandsFor D.state store_tells farm.old g × (weight g < most_turns) }
     ensures grows { (store_tells : Bool) (g : List Entry) → StandsFor D.state store_tells farm.old g → Grows D.state store_tells farm.new (weight g + 1) (CollectsAll g) }
@@ -88,7 +85,6 @@ fn collect_all<D: TileStore>(farm: &mut Farm<D>)
     while let Collected::Reply(_) = farm.collect(0) {}
 }
 
-/// Whether there was no memory for a read.
 fn is_short(answer: &Fetched) -> bool
     ensures yes { result ≡ true → answer.now ≡ fetched.NoMemory }
     ensures no { result ≡ false → answer.now ≢ fetched.NoMemory }
@@ -105,7 +101,7 @@ fn either(one: bool, other: bool) -> bool
     one || other
 }
 
-/// Fetches the tile of a spot; `lost` tells whether a call of the store failed in the step before.
+// Fetches the tile of a spot; `lost` tells whether a call of the store failed in the step before.
 fn fetch_one<D: TileStore>(
     alloc: Global,
     farm: &mut Farm<D>,

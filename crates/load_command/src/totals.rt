@@ -18,7 +18,6 @@ pub(crate) struct Totals {
     failed: bool,
 }
 
-/// The sum of the values of the bytes.
 #[tactic(auto, using(std::proofs::lemmas::List::Sums::sum_by_more))]
 fn sum_of(bytes: &[u8]) -> u128
     ensures sum { result ≡ byte_sum bytes.now }

@@ -13,7 +13,6 @@ pub struct Ellipse {
     pub b: u32,
 }
 
-// The square of a number.
 fn squared(n: u64) -> u128
     ensures value { result ≡ n * n }
     ensures small { n ≤ 2 ^ 31 → result ≤ 2 ^ 62 }
@@ -21,7 +20,6 @@ fn squared(n: u64) -> u128
     u128::from(n) * u128::from(n)
 }
 
-// Whether an ellipse reaches the height `y` from its centre at all.
 fn reaches(a: u32, b: u32, y: u64) -> bool
     ensures { result ≡ (nat_le 1 a && nat_le 1 b && nat_le y b) }
 {

@@ -29,7 +29,7 @@ fn mark_each<K: Surface>(points: &[Point], a: u32, b: u32, w: Window, mask: &mut
 /// Covers the pixels whose centre one of the marks holds, of a mask by setting their bits: an ellipse round
 /// each point, `a` wide and `b` high to each side, in world units of at most `2^31`; where one of them is 0
 /// none is covered. No other pixel changes. The points lie in the world, the window is a tile's or a
-/// metatile's, and the mask, or what stands for it, has its sides. It takes no memory.
+/// metatile's, and the mask, or what stands for it, has its sides.
 pub fn mark_points<K: Surface>(points: &Path, a: u32, b: u32, w: Window, mask: &mut K)
     requires points { All InWorld points.now }
     requires a { a ≤ 2 ^ 31 }

@@ -86,7 +86,6 @@ impl Peer {
         self.ended = true;
     }
 
-    /// Takes the first `count` of the bytes; after want of memory all is as before.
     fn gain(&mut self, bytes: &[u8], count: usize) -> Result<(), AllocError>
         requires { count ≤ length bytes.now }
         ensures done { OnOk result (self.new ≡ with_taken bytes.now count self.old) }

@@ -54,7 +54,7 @@ impl Model for MemPorts {
     ghost invariant = { λ p. length p.peers.items ≤ 2 ^ 32 };
 }
 
-/// Adds a line of an event that has no piece, and answers the event; takes no memory.
+// Adds a line of an event that has no piece, and answers the event.
 fn tell(log: &mut Vec<PortItem>, alloc: Global, event: PortEvent) -> PortEvent
     requires { vec_len log.old < vec_capacity log.old }
     ensures line { log.new.items ≡ log.old.items ++ item.Heard event [] ∷ [] }
@@ -65,7 +65,7 @@ fn tell(log: &mut Vec<PortItem>, alloc: Global, event: PortEvent) -> PortEvent
     event
 }
 
-/// Copies a piece into the room, and once more for the record; none where memory is wanting.
+// Copies a piece into the room, and once more for the record; none where memory is wanting.
 fn give(alloc: Global, piece: &[u8], room: &mut Vec<u8>) -> Option<Bytes>
     ensures { IfSome result (λ copy. (copy ≡ piece.now) × (room.new.items ≡ room.old.items ++ piece.now)) }
 {
@@ -84,7 +84,7 @@ fn is_to_fail(numbers: &[u64], n: u64) -> bool
     numbers.iter().any(|k| *k == n)
 }
 
-/// Gives up the processor until the front has sent so many bytes, but not for long.
+// Gives up the processor until the front has sent so many bytes, but not for long.
 fn pause(counts: &Counts, front: u32, bytes: u64) {
     for _ in 0..YIELDS {
         if counts.has_sent(front, bytes) {
@@ -153,49 +153,48 @@ impl MemPorts {
         })
     }
 
-    /// The sends of these numbers are to fail, counted from 0; takes no memory.
+    /// The sends of these numbers are to fail, counted from 0.
     pub fn fail(&mut self, sends: Vec<u64>)
         ensures { self.new ≡ record self.old { fails = sends.items } }
     {
         self.fails = sends;
     }
 
-    /// Every later listen is to fail; takes no memory.
+    /// Every later listen is to fail.
     pub fn deaf(&mut self)
         ensures { self.new ≡ record self.old { deaf = true } }
     {
         self.deaf = true;
     }
 
-    /// The bytes taken on the connection, none for one that was never opened; takes no memory.
+    /// The bytes taken on the connection, none for one that was never opened.
     pub fn taken(&self, conn: u32) -> &[u8]
         ensures { result.now ≡ taken_of (slice_get self.now.peers conn) }
     {
         peers::taken_at(self.peers.as_slice(), conn)
     }
 
-    /// Whether the connection is open; takes no memory.
+    /// Whether the connection is open.
     pub fn is_open(&self, conn: u32) -> bool
         ensures { result ≡ up_of (slice_get self.now.peers conn) }
     {
         peers::is_up_at(self.peers.as_slice(), conn)
     }
 
-    /// The record of all that happened; takes no memory.
+    /// The record of all that happened.
     pub fn record(&self) -> &[PortItem]
         ensures { result.now ≡ self.now.log }
     {
         self.log.as_slice()
     }
 
-    /// Passes over the steps that are not played.
     fn pass(&mut self)
         ensures { Moves self.old self.new }
     {
         self.script.pass(self.peers.as_slice(), &self.counts);
     }
 
-    /// Sees once before each step who is to hear Writable; past the last step nobody is.
+    // Sees once before each step who is to hear Writable; past the last step nobody is.
     fn mark(&mut self)
         ensures { self.new ≡ readied self.old }
     {
@@ -205,7 +204,6 @@ impl MemPorts {
         }
     }
 
-    /// Makes the ports ready for the next event; takes no memory.
     fn settle(&mut self)
         ensures { Readies self.old self.new }
     {
@@ -213,7 +211,6 @@ impl MemPorts {
         self.mark();
     }
 
-    /// Writable of the first connection that is marked.
     fn tell_writable(&mut self, place: usize) -> PortEvent
         requires { position is_due self.old.peers ≡ Some place }
         ensures { PlayedBy (play_due (Some place) self.old) self.old result self.new [] }
@@ -225,8 +222,8 @@ impl MemPorts {
         tell(&mut self.log, self.alloc, PortEvent::Writable(place as u32))
     }
 
-    /// Plays the step that stands first. Room for its line, and for a connection, is taken before
-    /// anything changes.
+    // Plays the step that stands first. Room for its line, and for a connection, is taken before
+    // anything changes.
     fn play(&mut self, room: &mut Vec<u8>) -> PortEvent
         requires live { BeginsLive self.old.peers self.old.steps }
         requires empty { room.old.items ≡ [] }
@@ -282,7 +279,6 @@ impl MemPorts {
         }
     }
 
-    /// The next event.
     fn play_next(&mut self, room: &mut Vec<u8>) -> PortEvent
         ensures plays { Plays self.old self.new result room.new.items }
         ensures piece { IsPieceOf result room.new.items }

@@ -34,7 +34,6 @@ impl Model for Script {
     ghost invariant = { λ s. list_all has_piece (drop s.place s.steps.items) ≡ true };
 }
 
-/// Nothing where the connection is alive.
 fn if_gone(peers: &[Peer], conn: u32) -> Option<bool>
     ensures { GoneIf (is_alive_at peers.now conn) result }
 {
@@ -45,8 +44,8 @@ fn if_gone(peers: &[Peer], conn: u32) -> Option<bool>
     }
 }
 
-/// Whether a step is passed over: nothing where it is played, else whether it is an Await whose number
-/// of bytes was sent.
+// Whether a step is passed over: nothing where it is played, else whether it is an Await whose number
+// of bytes was sent.
 fn passing_of(peers: &[Peer], counts: &Counts, step: &PortStep) -> Option<bool>
     ensures { Passings peers.now step.now result }
 {
@@ -66,14 +65,14 @@ fn passing_of(peers: &[Peer], counts: &Counts, step: &PortStep) -> Option<bool>
     }
 }
 
-/// Both are computed before this, so that no branch is left to a proof.
+// Both are computed before this, so that no branch is left to a proof.
 fn either(a: bool, b: bool) -> bool
     ensures { result ≡ (a || b) }
 {
     a || b
 }
 
-/// The place of the first step from this one on that is played, and whether an Await was passed over.
+// The place of the first step from this one on that is played, and whether an Await was passed over.
 fn first_left(peers: &[Peer], counts: &Counts, steps: &[PortStep], from: usize) -> (usize, bool)
     ensures { Passes peers.now (drop from steps.now) (drop result.0 steps.now) result.1 }
 {

@@ -22,7 +22,7 @@ fn is_piece(piece: &[u8]) -> bool
     !piece.is_empty() && piece.len() <= MOST_PIECE_BYTES
 }
 
-/// Whether a step is in order after others that left these connections alive, which it changes.
+// Whether a step is in order after others that left these connections alive, which it changes.
 fn follows(alive: &mut Vec<bool>, step: &PortStep) -> Result<bool, NoMemory>
     ensures { IfOk result (Follows alive.old.items step.now alive.new.items) }
 {

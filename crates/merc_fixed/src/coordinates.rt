@@ -23,7 +23,6 @@ pub fn y_from_cm(c: i64) -> Option<u32>
     units_from_edge(i128::from(HALF_CM) - i128::from(c))
 }
 
-/// So many centimetres from an edge of the world in units.
 fn units_from_edge(cm: i128) -> Option<u32>
     ensures { result ≡ units_from_edge cm }
 {

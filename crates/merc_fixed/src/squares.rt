@@ -51,7 +51,6 @@ pub fn overlaps(a: Square, b: Square) -> bool
     }
 }
 
-/// Whether `low`, which has a zoom of `high` or a later one, lies in `high`.
 fn is_ancestor(high: Square, low: Square) -> bool
     requires order { high.z ≤ low.z }
     requires zoom { low.z ≤ 18 }

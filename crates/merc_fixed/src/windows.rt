@@ -65,7 +65,6 @@ pub fn centre(w: Window, i: u32, j: u32) -> Point
     }
 }
 
-/// The side of a square of zoom `z` in world units.
 fn side(z: u32) -> u32
     requires { z ≤ 18 }
     ensures { result ≡ side_at z }
@@ -73,7 +72,6 @@ fn side(z: u32) -> u32
     1 << (30 - z)
 }
 
-/// The west or north edge of column or row `n` at zoom `z`.
 fn edge(z: u32, n: u32) -> u32
     requires zoom { z ≤ 18 }
     requires place { n < 2 ^ z }

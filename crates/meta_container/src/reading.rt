@@ -83,7 +83,7 @@ pub fn listing(bytes: &[u8]) -> Result<Listing, MetaFault>
     })
 }
 
-/// The first fault that does not speak of a metatile.
+// The first fault that does not speak of a metatile.
 fn head_fault(bytes: &[u8]) -> Option<MetaFault>
     ensures value { result ≡ spec.head_fault bytes.now }
     ensures enough { result ≡ Option.None → HEAD_BYTES ≤ length bytes.now }
@@ -108,7 +108,6 @@ fn head_fault(bytes: &[u8]) -> Option<MetaFault>
     None
 }
 
-/// The fault of a head that names another metatile than the asked one.
 fn place_fault(bytes: &[u8], m: Meta) -> Option<MetaFault>
     requires { HEAD_BYTES ≤ length bytes.now }
     ensures { result ≡ spec.place_fault bytes.now m }
@@ -120,7 +119,6 @@ fn place_fault(bytes: &[u8], m: Meta) -> Option<MetaFault>
     Some(MetaFault::Place(found.x, found.y, found.z))
 }
 
-/// The fault of a head that names no metatile.
 fn no_place_fault(bytes: &[u8]) -> Option<MetaFault>
     requires { HEAD_BYTES ≤ length bytes.now }
     ensures { result ≡ spec.no_place_fault bytes.now }
@@ -139,7 +137,6 @@ pub fn is_meta(m: Meta) -> bool
     m.z <= 18 && m.x < 1 << m.z && m.y < 1 << m.z && m.x % 8 == 0 && m.y % 8 == 0
 }
 
-/// The number in the four bytes at a place.
 fn number_at(bytes: &[u8], place: usize) -> u32
     requires { place + 4 ≤ length bytes.now }
     ensures { result ≡ number_at place bytes.now }
@@ -147,7 +144,6 @@ fn number_at(bytes: &[u8], place: usize) -> u32
     LittleEndian::read_u32(&bytes[place..])
 }
 
-/// The metatile that the head names.
 fn meta_in(bytes: &[u8]) -> Meta
     requires { HEAD_BYTES ≤ length bytes.now }
     ensures { result ≡ head_meta bytes.now }
@@ -159,7 +155,6 @@ fn meta_in(bytes: &[u8]) -> Meta
     }
 }
 
-/// The pair of a place.
 fn entry_at(bytes: &[u8], place: u32) -> Entry
     requires head { HEAD_BYTES ≤ length bytes.now }
     requires place { place < 64 }
@@ -185,14 +180,12 @@ fn begins_in_head(entry: Entry) -> bool
     (entry.offset as usize) < HEAD_BYTES
 }
 
-/// Whether a pair begins in the head or ends past the bytes.
 fn is_wild(len: usize, entry: Entry) -> bool
     ensures { result ≡ spec.is_wild len entry }
 {
     begins_in_head(entry) || len < entry.offset as usize + entry.size as usize
 }
 
-/// The pairs that name tiles, in order of their places.
 #[tactic(auto, unfolding(crate::specs::Reading::entries_in), using(crate::proofs::Entries::none_yet, crate::proofs::Entries::present_more, crate::proofs::Entries::absent_more))]
 fn entries_in(bytes: &[u8]) -> ArrayVec<Entry, PLACES>
     requires { HEAD_BYTES ≤ length bytes.now }
@@ -208,7 +201,6 @@ fn entries_in(bytes: &[u8]) -> ArrayVec<Entry, PLACES>
     entries
 }
 
-/// The fault of the first pair that is wild.
 fn wild_in(len: usize, entries: &[Entry]) -> Option<MetaFault>
     ensures { result ≡ spec.first_wild len entries.now }
 {

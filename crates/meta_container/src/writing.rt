@@ -42,7 +42,6 @@ pub fn put_head(out: &mut Vec<u8>, m: Meta, size: u32) -> Result<(), NoMemory>
     Ok(())
 }
 
-/// Appends the mark, the count of places, and x, y and z of the metatile.
 fn put_mark(out: &mut Vec<u8>, m: Meta) -> Result<(), NoMemory>
     ensures { OnOk result (out.new.items ≡ out.old.items ++ codes "META" ++ little_bytes 4 64 ++ little_bytes 4 m.x ++ little_bytes 4 m.y ++ little_bytes 4 m.z) }
 {
@@ -53,7 +52,6 @@ fn put_mark(out: &mut Vec<u8>, m: Meta) -> Result<(), NoMemory>
     put_number(out, m.z)
 }
 
-/// How many bytes the tiles have together.
 fn bytes_in(tiles: &[Bytes]) -> usize
     requires { bytes_of tiles.now < 2 ^ 31 }
     ensures { result ≡ bytes_of tiles.now }
@@ -61,14 +59,12 @@ fn bytes_in(tiles: &[Bytes]) -> usize
     tiles.iter().map(|tile| tile.as_slice().len()).sum()
 }
 
-/// Whether a metatile with so many tiles side by side has one at the place.
 fn has_tile(across: u32, place: u32) -> bool
     ensures { result ≡ spec.has_tile across place }
 {
     place / 8 < across && place % 8 < across
 }
 
-/// The pair of a place; zeros where there is no tile.
 fn span_at(across: u32, tiles: &[Bytes], place: u32) -> Span
     requires few { across ≤ 8 }
     requires count { length tiles.now ≡ across * across }
@@ -87,7 +83,7 @@ fn span_at(across: u32, tiles: &[Bytes], place: u32) -> Span
     }
 }
 
-/// The pair of a place where all tiles have the same size; zeros where there is no tile.
+// The pair of a place where all tiles have the same size; zeros where there is no tile.
 fn even_span(across: u32, size: u32, place: u32) -> Span
     requires few { across ≤ 8 }
     requires size { size < 2 ^ 25 }
@@ -113,7 +109,6 @@ pub fn put_number(out: &mut Vec<u8>, number: u32) -> Result<(), NoMemory>
     Ok(())
 }
 
-/// Appends a pair in eight bytes.
 fn put_span(out: &mut Vec<u8>, span: Span) -> Result<(), NoMemory>
     ensures { OnOk result (out.new.items ≡ out.old.items ++ span_bytes span) }
 {
@@ -121,7 +116,6 @@ fn put_span(out: &mut Vec<u8>, span: Span) -> Result<(), NoMemory>
     put_number(out, span.size)
 }
 
-/// Appends the pairs of all places.
 fn put_index(out: &mut Vec<u8>, across: u32, tiles: &[Bytes]) -> Result<(), NoMemory>
     requires few { across ≤ 8 }
     requires count { length tiles.now ≡ across * across }
@@ -134,7 +128,6 @@ fn put_index(out: &mut Vec<u8>, across: u32, tiles: &[Bytes]) -> Result<(), NoMe
     Ok(())
 }
 
-/// Appends the pairs of all places where all tiles have the same size.
 fn put_even_index(out: &mut Vec<u8>, across: u32, size: u32) -> Result<(), NoMemory>
     requires few { across ≤ 8 }
     requires size { size < 2 ^ 25 }

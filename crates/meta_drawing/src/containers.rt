@@ -18,7 +18,6 @@ use std::alloc::Global;
 use tile_render::draw_picture;
 use tiled_image::TiledImage;
 
-/// How many digits the side of a tile has.
 #[tactic(auto, using(crate::proofs::Texts::two_digits, crate::proofs::Texts::three_digits))]
 fn digits_of(size: u32) -> u32
     requires { IsTileSize size }
@@ -28,7 +27,6 @@ fn digits_of(size: u32) -> u32
     if size < 100 { 2 } else { 3 }
 }
 
-/// How many bytes the text of a tile has.
 #[tactic(auto, using(crate::proofs::Texts::few_pixels))]
 fn text_len(size: u32) -> u32
     requires { IsTileSize size }
@@ -38,7 +36,6 @@ fn text_len(size: u32) -> u32
     9 + 2 * digits_of(size) + 3 * (size * size)
 }
 
-/// Appends the texts of a column of tiles, from north to south.
 fn put_column(
     image: &TiledImage,
     size: u32,
@@ -59,7 +56,6 @@ fn put_column(
     Ok(())
 }
 
-/// Appends the texts of all tiles, by columns.
 fn put_tiles(image: &TiledImage, size: u32, across: u32, out: &mut Vec<u8>) -> Result<(), NoMemory>
     requires few { size ≤ 512 }
     requires few_across { across ≤ 8 }
@@ -73,7 +69,6 @@ fn put_tiles(image: &TiledImage, size: u32, across: u32, out: &mut Vec<u8>) -> R
     Ok(())
 }
 
-/// The container of a metatile before its tiles.
 fn head_of(alloc: Global, size: u32, m: Meta) -> Result<Vec<u8>, NoMemory>
     requires size { IsTileSize size }
     requires meta { IsMeta m }

@@ -64,7 +64,6 @@ fn rgb(r: u8, g: u8, b: u8) -> Colour
     Colour { r, g, b }
 }
 
-// The value of a hexadecimal digit.
 fn hex(c: u8) -> Option<u8>
     ensures value { result ≡ spec.hex c }
     ensures bound { IfSome result (λ n. n ≤ 15) }
@@ -102,7 +101,6 @@ fn channels(digits: &[u8]) -> Option<Colour>
     }
 }
 
-// What stands behind this byte.
 fn behind(sign: u8, text: &[u8]) -> Option<&[u8]>
     ensures { option_map (λ s. s.now) result ≡ spec.behind sign text.now }
 {

@@ -33,7 +33,6 @@ fn at_most_one(n: Option<u64>) -> Option<u32>
     }
 }
 
-// The number in parts of which 10^places make one.
 #[tactic(auto, using(crate::proofs::Runs::front_digits), unfolding(crate::specs::Decimals::decimal_of))]
 fn decimal(text: &str, places: u32) -> Option<u64>
     requires { places ≤ 3 }
@@ -44,7 +43,6 @@ fn decimal(text: &str, places: u32) -> Option<u64>
     ended(&bytes[..len], &bytes[len..], places)
 }
 
-// The whole part, and what stands behind its digits.
 fn ended(whole: &[u8], rest: &[u8], places: u32) -> Option<u64>
     requires few { places ≤ 3 }
     requires digits { list_all is_digit whole.now ≡ true }

@@ -40,7 +40,7 @@ impl Model for Grid {
 
 impl Grid {
     /// The colour of the pixel that holds the point, and `None` exactly where the point lies outside the grid's
-    /// columns and rows; takes no memory.
+    /// columns and rows.
     pub fn at(&self, c: Point) -> Option<Colour>
         ensures { result ≡ grid_at self.now c }
     {

@@ -80,14 +80,14 @@ impl Model for Rule {
     ghost invariant = { λ r. IsRule r.else_filter (option_map tree_of r.filter) r.symbolizers.items };
 }
 
-/// Makes known what a rule keeps: its symbolizers are within their ranges.
+// Makes known what a rule keeps: its symbolizers are within their ranges.
 fn know_rule(rule: &Rule)
     ensures { IsTrue (list_all is_paint rule.now.symbolizers) }
 {
     let _symbolizers = rule.symbolizers.as_slice();
 }
 
-/// Makes known what each of the rules keeps.
+// Makes known what each of the rules keeps.
 fn know_rules(rules: &[Rule])
     ensures { All (λ r. IsTrue (list_all is_paint r.symbolizers)) rules.now }
 {
@@ -132,7 +132,7 @@ impl Style {
     }
 }
 
-/// Makes known what each of the styles keeps.
+// Makes known what each of the styles keeps.
 fn know_styles(styles: &[Style])
     ensures { All KeepsRanges styles.now }
 {
@@ -235,7 +235,7 @@ impl MapStyle {
         know_styles(&self.styles);
     }
 
-    /// The same style with these grids for its rasters; takes no memory.
+    /// The same style with these grids for its rasters.
     pub fn bind(self, grids: Vec<Grid>) -> MapStyle
         requires { IsTrue (grids_match self.rasters grids.items) }
         ensures { result ≡ record self { grids = grids.items } }

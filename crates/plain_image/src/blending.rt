@@ -9,7 +9,6 @@ ghost use Rattle.plain_world.specs.Limits.{most_side};
 
 use plain_shapes::Colour;
 
-// One channel `s` painted over the channel `d`, rounded to the nearest.
 fn channel(s: u8, opacity: u32, d: u8) -> u8
     requires { opacity ≤ 1000 }
     ensures { result ≡ blend_channel opacity s d }
@@ -32,7 +31,6 @@ pub fn over(s: Colour, opacity: u32, d: Colour) -> Colour
     }
 }
 
-// The colour at the place `k`, which is inside.
 fn colour_at(bytes: &[u8], k: usize) -> Colour
     requires kept { flat_map pixel_bytes (colours bytes.now) ≡ bytes.now }
     requires inside { k < length (colours bytes.now) }
@@ -46,7 +44,6 @@ fn colour_at(bytes: &[u8], k: usize) -> Colour
     }
 }
 
-// Puts a colour at the place `k`, which is inside.
 fn put_colour(bytes: &mut [u8], k: usize, c: Colour)
     requires kept { flat_map pixel_bytes (colours bytes.old) ≡ bytes.old }
     requires inside { k < length (colours bytes.old) }

@@ -30,7 +30,6 @@ impl Model for Colours {
     ghost invariant = { λ m. flat_map pixel_bytes (colours m.bytes.items) ≡ m.bytes.items };
 }
 
-// The bytes of so many pixels of one colour.
 fn line(alloc: Global, cols: u32, c: Colour) -> Result<Vec<u8>, NoMemory>
     requires { cols ≤ most_side }
     ensures { IfOk result (λ v. v.items ≡ flat_map pixel_bytes (replicate cols c)) }
@@ -42,7 +41,6 @@ fn line(alloc: Global, cols: u32, c: Colour) -> Result<Vec<u8>, NoMemory>
     Ok(out)
 }
 
-// The bytes of so many rows of one colour.
 #[tactic(auto, using(crate::proofs::Bytes::lines_more, crate::proofs::Bytes::no_lines))]
 fn lines(alloc: Global, rows: u32, cols: u32, c: Colour) -> Result<Vec<u8>, NoMemory>
     requires rows { rows ≤ most_side }

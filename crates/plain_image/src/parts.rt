@@ -21,7 +21,6 @@ fn is_digit(b: u8) -> bool
     b >= b'0' && b <= b'9'
 }
 
-// The byte `c`.
 fn one_byte(bytes: &[u8], at: usize, c: u8) -> Result<usize, PpmFault>
     requires { at ≤ length bytes.now }
     ensures value { result ≡ one_byte c at (drop at bytes.now) }
@@ -34,7 +33,6 @@ fn one_byte(bytes: &[u8], at: usize, c: u8) -> Result<usize, PpmFault>
     }
 }
 
-// One blank.
 fn one_blank(bytes: &[u8], at: usize) -> Result<usize, PpmFault>
     requires { at ≤ length bytes.now }
     ensures value { result ≡ one_blank at (drop at bytes.now) }
@@ -76,7 +74,6 @@ fn after_no_comment(b: u8) -> Option<Gap>
     }
 }
 
-// Where a gap ends.
 fn gap_end(place: Gap, at: usize) -> Result<usize, PpmFault>
     ensures value { result ≡ gap_end place at }
     ensures within { IfOk result (λ n. n ≡ at) }
@@ -88,7 +85,6 @@ fn gap_end(place: Gap, at: usize) -> Result<usize, PpmFault>
     }
 }
 
-// Blanks and comments before a number.
 fn gap(bytes: &[u8], at: usize) -> Result<usize, PpmFault>
     requires { at ≤ length bytes.now }
     ensures value { result ≡ gap Bare at (drop at bytes.now) }
@@ -119,7 +115,6 @@ fn side(bytes: &[u8], at: usize) -> Result<Side, PpmFault>
     }
 }
 
-// Further digits of a side that is `first` so far.
 fn digits(bytes: &[u8], at: usize, first: u32) -> Result<Side, PpmFault>
     requires inside { at ≤ length bytes.now }
     requires some { 1 ≤ first }
@@ -146,7 +141,6 @@ fn digits(bytes: &[u8], at: usize, first: u32) -> Result<Side, PpmFault>
     })
 }
 
-// A gap and then a side.
 fn gap_side(bytes: &[u8], at: usize) -> Result<Side, PpmFault>
     requires { at ≤ length bytes.now }
     ensures value { result ≡ gap_side bytes.now at }
@@ -158,7 +152,6 @@ fn gap_side(bytes: &[u8], at: usize) -> Result<Side, PpmFault>
     side(bytes, start)
 }
 
-// The magic number.
 fn magic(bytes: &[u8]) -> Result<usize, PpmFault>
     ensures value { result ≡ magic bytes.now }
     ensures within { IfOk result (λ n. n ≤ length bytes.now) }
@@ -167,7 +160,6 @@ fn magic(bytes: &[u8]) -> Result<usize, PpmFault>
     one_byte(bytes, six, b'6')
 }
 
-// A gap, the greatest value 255 and one blank.
 fn greatest(bytes: &[u8], at: usize) -> Result<usize, PpmFault>
     requires { at ≤ length bytes.now }
     ensures value { result ≡ greatest bytes.now at }

@@ -29,7 +29,6 @@ impl Model for ReadyLine {
     ghost invariant = { λ m. m.bytes.items ≡ flat_map pixel_bytes (replicate m.count m.colour) };
 }
 
-// Appends the bytes of so many pixels of a colour.
 fn append(out: &mut Vec<u8>, c: Colour, count: usize) -> Result<(), NoMemory>
     ensures { OnOk result (out.new.items ≡ out.old.items ++ flat_map pixel_bytes (replicate count c)) }
 {
@@ -51,7 +50,6 @@ impl ReadyLine {
         }
     }
 
-    // No pixel any more, of a colour.
     fn restart(&mut self, c: Colour)
         ensures { self.new ≡ (c, 0) }
     {

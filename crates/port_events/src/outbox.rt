@@ -51,7 +51,7 @@ impl Model for Pending {
     ghost invariant = { λ p. p.start ≤ length p.bytes.items };
 }
 
-/// Takes so many bytes out at the front, of which there are as many; takes no memory.
+/// Takes so many bytes out at the front, of which there are as many.
 pub fn drop_front(bytes: &mut Vec<u8>, count: usize)
     requires { count ≤ length bytes.old.items }
     ensures { bytes.new.items ≡ drop count bytes.old.items }
@@ -84,7 +84,7 @@ impl Pending {
         &self.bytes[self.start..]
     }
 
-    /// Puts bytes behind the rest. Where no fewer bytes are gone than are left, they are taken out first.
+    // Puts bytes behind the rest. Where no fewer bytes are gone than are left, they are taken out first.
     fn add(&mut self, bytes: &[u8]) -> Result<(), AllocError>
         ensures done { OnOk result (self.new ≡ (self.old.0, self.old.1 ++ bytes.now)) }
         ensures refused { OnErr result (self.new ≡ self.old) }
@@ -96,7 +96,7 @@ impl Pending {
         self.bytes.extend_from_slice(bytes)
     }
 
-    /// Makes the bytes its rest, where it has none, in exchange for the vector that it had.
+    // Makes the bytes its rest, where it has none, in exchange for the vector that it had.
     fn exchange(&mut self, bytes: &mut Vec<u8>)
         ensures { self.new ≡ (self.old.0, bytes.old.items) }
     {
@@ -104,7 +104,6 @@ impl Pending {
         self.start = 0;
     }
 
-    /// Takes bytes off the rest's front.
     fn skip(&mut self, taken: usize)
         requires { taken ≤ length self.old.1 }
         ensures { self.new ≡ (self.old.0, drop taken self.old.1) }
@@ -145,14 +144,12 @@ impl Model for Outbox {
     ghost invariant = { λ b. All (λ (p : ℕ × List ℕ). length p.1 ≤ most_rest_bytes) b.items.items × (b.rests.items ≡ []) × (vec_len b.items ≤ vec_capacity b.rests) };
 }
 
-/// The place of the connection's first pair.
 fn place_of(items: &[Pending], conn: u32) -> Option<usize>
     ensures { result ≡ position (λ (p : ℕ × List ℕ). p.0 == conn) items.now }
 {
     items.iter().position(|pending| pending.conn() == conn)
 }
 
-/// The place of the first pair of a connection that is there.
 fn there(items: &[Pending], conn: u32) -> usize
     requires { HasRest items.now conn }
     ensures { Here items.now conn result }
@@ -164,7 +161,7 @@ fn there(items: &[Pending], conn: u32) -> usize
 }
 
 impl Outbox {
-    /// An empty outbox; takes no memory.
+    /// An empty outbox.
     pub fn new(alloc: Global) -> Outbox
         ensures { result ≡ [] }
     {
@@ -239,7 +236,7 @@ impl Outbox {
         Ok(())
     }
 
-    /// The connection's rest; takes no memory.
+    /// The connection's rest.
     pub fn rest(&self, conn: u32) -> &[u8]
         requires { HasRest self.now conn }
         ensures { rest_at self.entry.now conn ≡ Some result.now }
@@ -247,7 +244,7 @@ impl Outbox {
         self.items[there(self.items.as_slice(), conn)].rest()
     }
 
-    /// Removes the connection; takes no memory.
+    /// Removes the connection.
     pub fn forget(&mut self, conn: u32)
         requires { HasRest self.old conn }
         ensures { self.new ≡ without self.old conn }
@@ -256,7 +253,7 @@ impl Outbox {
         self.items.remove(place);
     }
 
-    /// All rests, in the order of their pairs, as those of the front of this number; takes no memory.
+    /// All rests, in the order of their pairs, as those of the front of this number.
     pub fn into_rests(self, front: u32) -> Vec<Rest>
         ensures { result.items ≡ map (as_rest front) self }
     {

@@ -35,7 +35,7 @@ pub trait Ports {
         ensures count { IfOk result (λ n. n ≤ length bytes.now) }
         ensures cause { SendCounts (state self.old).faults (state self.new).faults result };
 
-    /// Ends the connection; takes no memory.
+    /// Ends the connection.
     fn close(&mut self, conn: u32)
         requires { IsOpen conn (state self.old).told }
         ensures told { Closes conn (state self.old).told (state self.new).told }

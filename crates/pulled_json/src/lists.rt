@@ -38,7 +38,6 @@ pub trait PullItem {
         ensures known { IfSome result (λ x. knows known.new (before.now ++ x ∷ [])) };
 }
 
-/// Pulls the items up to the end of a list that has begun.
 fn pull_items<P: PullItem>(
     alloc: Global,
     pulls: &P,

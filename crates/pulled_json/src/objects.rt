@@ -29,7 +29,6 @@ pub trait PullMember {
         ensures shorter { OnSome result (length reader.new < length reader.old) };
 }
 
-/// Pulls the members up to the end of an object that has begun.
 fn pull_members<P: PullMember>(
     alloc: Global,
     pulls: &P,

@@ -46,7 +46,6 @@ fn with_sign(numeral: &Numeral<'_>) -> Option<Number>
     }
 }
 
-/// The number that a token writes.
 #[tactic(auto, unfolding(serde_json::specs::Read::number_of))]
 fn number_at(text: &str) -> Option<Number>
     ensures { IfSome result (λ n. number_of text.now ≡ Some (number_view n)) }

@@ -47,7 +47,6 @@ pub struct ColumnRun {
     pub bottom: u32,
 }
 
-// The k-th corner.
 #[tactic(auto, using(std::proofs::lemmas::List::get_or_default))]
 fn corner_at(corners: &[Corner], k: usize) -> Corner
     requires { k < length corners.now }
@@ -89,7 +88,6 @@ fn column_run(corners: &[Corner], k: usize, w: Window) -> (ColumnRun, usize)
     (run, k + 1)
 }
 
-// Adds the crossings of a run of a column.
 fn cross_run(run: ColumnRun, w: Window, places: &mut Vec<u32>) -> Result<(), NoMemory>
     requires window { IsWindow w }
     requires column { run.column < w.cols }
@@ -102,7 +100,6 @@ fn cross_run(run: ColumnRun, w: Window, places: &mut Vec<u32>) -> Result<(), NoM
     Ok(())
 }
 
-// Adds the crossings of a run of a column, if the window has the column.
 fn cross_column(run: ColumnRun, w: Window, places: &mut Vec<u32>) -> Result<(), NoMemory>
     requires window { IsWindow w }
     requires rows { run.bottom ≤ w.rows }
@@ -114,7 +111,6 @@ fn cross_column(run: ColumnRun, w: Window, places: &mut Vec<u32>) -> Result<(), 
     cross_run(run, w, places)
 }
 
-// Adds the crossings of all columns.
 fn cross_columns(corners: &[Corner], w: Window, places: &mut Vec<u32>) -> Result<(), NoMemory>
     requires { IsWindow w }
     ensures { OnOk result (Toggled w (odd_corners corners.now) places.old.items places.new.items) }
@@ -141,7 +137,6 @@ pub fn listed(w: Window, crossed: Crossed) -> Result<Vec<u32>, NoMemory>
     Ok(places)
 }
 
-// Lists the crossings of columns where there are too many corners.
 fn list_columns(alloc: Global, w: Window, crossed: &mut Crossed) -> Result<(), NoMemory>
     requires { IsWindow w }
     ensures { OnOk result (SameTurns w crossed.old crossed.new) }

@@ -66,7 +66,6 @@ pub struct Edge {
     pub bottom: u32,
 }
 
-// The first column whose centres lie at `x` or past it, or the number of columns.
 fn first_past(w: Window, x: u32) -> u32
     requires { IsWindow w }
     ensures first { IsFirst w x result }
@@ -93,7 +92,6 @@ fn column(e: Edge, w: Window, j: u32) -> u32
     }
 }
 
-// Adds the crossing of one row.
 fn cross_row(e: Edge, w: Window, j: u32, places: &mut Vec<u32>) -> Result<(), NoMemory>
     requires edge { IsEdge w e }
     requires window { IsWindow w }
@@ -109,7 +107,6 @@ fn cross_row(e: Edge, w: Window, j: u32, places: &mut Vec<u32>) -> Result<(), No
     Ok(())
 }
 
-// The edge that runs from `a` down to `b`.
 fn edge_down(a: Point, b: Point, w: Window) -> Edge
     requires a_in { InWorld a }
     requires b_in { InWorld b }
@@ -143,7 +140,6 @@ fn cross_rows(e: Edge, w: Window, from: u32, to: u32, places: &mut Vec<u32>) -> 
     Ok(())
 }
 
-// Adds the rows of a column by their two ends, unless it lies east of the window.
 fn add_ends(run: ColumnRun, w: Window, corners: &mut Vec<Corner>) -> Result<(), NoMemory>
     requires { run.top ≤ run.bottom }
     ensures { OnOk result (CornersTurned w (in_run run) corners.old.items corners.new.items) }
@@ -180,7 +176,6 @@ fn same_column(e: Edge, w: Window, from: u32, to: u32) -> Option<u32>
     if first == last { Some(first) } else { None }
 }
 
-// Adds the crossings of an edge in the rows from `from` on and before `to`.
 fn cross_part(e: Edge, w: Window, from: u32, to: u32, crossed: &mut Crossed) -> Result<(), NoMemory>
     requires edge { IsEdge w e }
     requires window { IsWindow w }
@@ -216,7 +211,6 @@ fn rows_together(e: Edge) -> u32
     }
 }
 
-// Adds the crossings of an edge that runs from `a` down to `b`.
 fn cross_down(a: Point, b: Point, w: Window, crossed: &mut Crossed) -> Result<(), NoMemory>
     requires a_in { InWorld a }
     requires b_in { InWorld b }
@@ -235,7 +229,6 @@ fn cross_down(a: Point, b: Point, w: Window, crossed: &mut Crossed) -> Result<()
     Ok(())
 }
 
-// Adds the crossings of an edge.
 fn cross_edge(a: Point, b: Point, w: Window, crossed: &mut Crossed) -> Result<(), NoMemory>
     requires a_in { InWorld a }
     requires b_in { InWorld b }
@@ -273,7 +266,6 @@ fn cross_ring(
     Ok(())
 }
 
-// The same of a ring as a path.
 fn cross_path(alloc: Global, ring: &Path, w: Window, crossed: &mut Crossed) -> Result<(), NoMemory>
     requires points { All InWorld ring.now }
     requires window { IsWindow w }

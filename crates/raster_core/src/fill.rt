@@ -32,7 +32,6 @@ pub fn crossings(alloc: Global, rings: &[Path], w: Window) -> Result<Vec<u32>, N
     in_order(alloc, w, places)
 }
 
-// Sets the bits of all runs.
 fn set_runs(places: &[u32], w: Window, mask: &mut Mask)
     requires window { IsWindow w }
     requires inside { AllInside w places.now }

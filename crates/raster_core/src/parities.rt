@@ -19,7 +19,6 @@ const SORTED: usize = 1_024;
 // Where there is a crossing for so many pixels, or more, their bits are sooner gone through than they are sorted.
 const SPARSE: usize = 16;
 
-// How many pixels a window has.
 fn area_of(w: Window) -> usize
     requires { IsWindow w }
     ensures value { result ≡ w.rows * w.cols }
@@ -28,7 +27,6 @@ fn area_of(w: Window) -> usize
     w.rows as usize * w.cols as usize
 }
 
-// Turns the bit of a place round.
 fn turn(bits: &mut Vec<bool>, place: u32)
     requires { place < length bits.old.items }
     ensures { bits.new.items ≡ slice_set bits.old.items place (not (slice_index_or bits.old.items place false)) }
@@ -37,7 +35,6 @@ fn turn(bits: &mut Vec<bool>, place: u32)
     bits[k] = !bits[k];
 }
 
-// The bits of so many places, none of them set.
 fn no_bits(alloc: Global, area: usize) -> Result<Vec<bool>, NoMemory>
     ensures { IfOk result (λ v. v.items ≡ replicate area false) }
 {
@@ -45,7 +42,6 @@ fn no_bits(alloc: Global, area: usize) -> Result<Vec<bool>, NoMemory>
     Ok(bits)
 }
 
-// The bits of so many places, set where the number of crossings is odd.
 fn bits_of(alloc: Global, area: usize, places: &[u32]) -> Result<Vec<bool>, NoMemory>
     requires { All (λ place. place < area) places.now }
     ensures count { IfOk result (λ v. length v.items ≡ area) }
@@ -58,7 +54,6 @@ fn bits_of(alloc: Global, area: usize, places: &[u32]) -> Result<Vec<bool>, NoMe
     Ok(bits)
 }
 
-// Adds a place if its bit is set.
 fn add_set(places: &mut Vec<u32>, place: u32, is_set: bool) -> Result<(), NoMemory>
     ensures { OnOk result (places.new.items ≡ places.old.items ++ (if is_set then place ∷ [] else [])) }
 {
@@ -68,7 +63,6 @@ fn add_set(places: &mut Vec<u32>, place: u32, is_set: bool) -> Result<(), NoMemo
     Ok(())
 }
 
-// The places of the bits that are set.
 fn set_places(alloc: Global, bits: &[bool]) -> Result<Vec<u32>, NoMemory>
     requires { length bits.now ≤ 2 ^ 24 }
     ensures { IfOk result (λ v. v.items ≡ set_places 0 bits.now) }
@@ -80,7 +74,6 @@ fn set_places(alloc: Global, bits: &[bool]) -> Result<Vec<u32>, NoMemory>
     Ok(places)
 }
 
-// The places in order, with each two that are the same left out.
 fn by_bits(alloc: Global, w: Window, places: &[u32]) -> Result<Vec<u32>, NoMemory>
     requires window { IsWindow w }
     requires inside { AllInside w places.now }

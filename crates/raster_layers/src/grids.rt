@@ -13,7 +13,7 @@ pub enum GridFault {
 }
 
 /// A grid of this name whose west and north edges and whose pixel's side are told in world units, with
-/// three bytes a pixel by rows. Size exactly where a side is over 1,024 pixels. It takes no memory.
+/// three bytes a pixel by rows. Size exactly where a side is over 1,024 pixels.
 pub fn make_grid(
     name: Text,
     west: u32,

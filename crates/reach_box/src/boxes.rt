@@ -17,7 +17,6 @@ use merc_fixed::meta_square;
 use plain_world::Meta;
 use std::alloc::Global;
 
-/// Adds the box of the feature.
 fn add_box(boxes: &mut Vec<Bounds>, f: &Feature) -> Result<(), NoMemory>
     ensures { OnOk result (Adds (f.now ∷ []) boxes.old.items boxes.new.items) }
 {
@@ -25,7 +24,6 @@ fn add_box(boxes: &mut Vec<Bounds>, f: &Feature) -> Result<(), NoMemory>
     Ok(())
 }
 
-/// Adds the box of the layer's feature of the id, if there is one.
 fn add_old(boxes: &mut Vec<Bounds>, layer: &LayerFinder<'_>, id: u64) -> Result<(), NoMemory>
     ensures { OnOk result (Adds (at_id layer.now.features id) boxes.old.items boxes.new.items) }
 {
@@ -35,7 +33,6 @@ fn add_old(boxes: &mut Vec<Bounds>, layer: &LayerFinder<'_>, id: u64) -> Result<
     }
 }
 
-/// Adds the boxes of the layer's features of the ids.
 fn add_removed(
     boxes: &mut Vec<Bounds>,
     layer: &LayerFinder<'_>,
@@ -49,7 +46,7 @@ fn add_removed(
     Ok(())
 }
 
-/// Adds the boxes of the features that are put, and of the layer's features of their ids.
+// Adds the boxes of the features that are put, and of the layer's features of their ids.
 fn add_put(
     boxes: &mut Vec<Bounds>,
     layer: &LayerFinder<'_>,
@@ -64,7 +61,6 @@ fn add_put(
     Ok(())
 }
 
-/// Adds the boxes of the features that are put where there is no layer yet.
 fn add_new(boxes: &mut Vec<Bounds>, puts: &[Feature]) -> Result<(), NoMemory>
     ensures { OnOk result (Adds puts.now boxes.old.items boxes.new.items) }
 {
@@ -74,7 +70,6 @@ fn add_new(boxes: &mut Vec<Bounds>, puts: &[Feature]) -> Result<(), NoMemory>
     Ok(())
 }
 
-/// Adds the boxes of the features of the layer that the change names.
 fn add_changed(
     boxes: &mut Vec<Bounds>,
     layer: &LayerFinder<'_>,
@@ -86,14 +81,12 @@ fn add_changed(
     add_put(boxes, layer, change.put.as_slice())
 }
 
-/// The place of the layer of the name.
 fn place_named(layers: &[LayerFinder<'_>], name: &str) -> Option<usize>
     ensures { result ≡ position (λ l. bytes_eq l.name name.now) layers.now }
 {
     layers.iter().position(|layer| layer.is_named(name))
 }
 
-/// Adds the boxes of the features that the change names.
 fn add_named(
     alloc: Global,
     boxes: &mut Vec<Bounds>,
@@ -131,7 +124,7 @@ pub fn named_boxes(
     Ok(boxes)
 }
 
-/// Whether some of the boxes reaches the metatile, for tiles of `size` by `size` pixels. Takes no memory.
+/// Whether some of the boxes reaches the metatile, for tiles of `size` by `size` pixels.
 pub fn boxes_reach(boxes: &[Bounds], size: u32, m: Meta) -> bool
     requires size { IsTileSize size }
     requires meta { IsMeta m }

@@ -14,7 +14,6 @@ use geo_model::Bounds;
 /// How many sizes a map's tiles may have: 16 pixels, and each the double of the one before.
 const SIZES: u32 = 6;
 
-/// The bit of a place, where it is asked for.
 fn bit_if(place: usize, there: bool) -> u64
     requires { place < 64 }
     ensures { (m : ℕ) → (bit_at result m == 1) ≡ (there && (m == place)) }
@@ -22,7 +21,6 @@ fn bit_if(place: usize, there: bool) -> u64
     if there { 1 << place } else { 0 }
 }
 
-/// The word of the maps whose tiles have that size: a bit for each, by its place.
 fn word_of(maps: &[MapPlan], size: u32) -> u64
     requires { length maps.now ≤ 16 }
     ensures { (m : ℕ) → (bit_at result m == 1) ≡ has_size (slice_get maps.now m) size }

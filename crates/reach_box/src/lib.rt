@@ -36,7 +36,6 @@ pub fn box_reaches(b: Bounds, size: u32, z: u32, s: Square) -> bool
 
 /// Whether the feature reaches the square, for tiles of `size` by `size` pixels at zoom `z`: whether some point
 /// of the square lies in the feature's bounding box, widened by 64 pixels on each side, borders included.
-/// Takes no memory.
 pub fn reaches(f: &Feature, size: u32, z: u32, s: Square) -> bool
     requires size { IsTileSize size }
     requires zoom { z ≤ 18 }
@@ -48,7 +47,7 @@ pub fn reaches(f: &Feature, size: u32, z: u32, s: Square) -> bool
     box_reaches(box_of(f), size, z, s)
 }
 
-/// The feature's bounding box, which reaches what the feature reaches. Takes no memory.
+/// The feature's bounding box, which reaches what the feature reaches.
 pub fn box_of(f: &Feature) -> Bounds
     ensures sound { IsBox result }
     ensures reach { (size z : ℕ) (s : Square)

@@ -8,7 +8,6 @@ ghost use Rattle.reading.specs.Values as spec;
 
 use serde_json::{Map, Value};
 
-// Whether the name is one of those.
 fn is_any(names: &[&str], name: &str) -> bool
     ensures { result ≡ list_any (λ s. bytes_eq name.now s.now) names.now }
 {

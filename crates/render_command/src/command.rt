@@ -35,7 +35,6 @@ pub fn render<F: Files, O: Sink>(
     put(out, tile.as_slice())
 }
 
-// The text of the tile that the files say.
 #[tactic(auto, using(farm_files::proofs::Courses::follows_then, farm_files::proofs::Courses::follows_stop), unfolding(crate::specs::Courses::render_course_by))]
 fn picture<F: Files>(alloc: Global, asked: RenderWords, files: &mut F) -> Result<Vec<u8>, Stop>
     requires size { IsTileSize asked.size }
@@ -48,7 +47,6 @@ fn picture<F: Files>(alloc: Global, asked: RenderWords, files: &mut F) -> Result
     drawn(alloc, &style, asked.size, asked.tile, dataset)
 }
 
-// The text of the tile over these data.
 fn drawn(
     alloc: Global,
     style: &MapStyle,

@@ -31,7 +31,6 @@ pub fn meta<F: Files, O: Sink>(
     put(out, text.as_slice())
 }
 
-// The lines of the container that the file holds.
 #[tactic(auto, using(farm_files::proofs::Courses::follows_then, farm_files::proofs::Courses::follows_stop, farm_files::proofs::Courses::follows_wanting), unfolding(crate::specs::MetaCourses::meta_course))]
 fn text_of<F: Files>(alloc: Global, name: &str, files: &mut F) -> Result<Vec<u8>, Stop>
     ensures { Follows (meta_course name.now) (F.state files.old) (F.state files.new) (seen (λ v. v.items) result) }
@@ -40,7 +39,6 @@ fn text_of<F: Files>(alloc: Global, name: &str, files: &mut F) -> Result<Vec<u8>
     Ok(listing_text(alloc, &listing)?)
 }
 
-// Reads a container and checks it.
 #[tactic(auto, using(farm_files::proofs::Judged::file_stops))]
 fn read_listing<F: Files>(alloc: Global, files: &mut F, name: &str) -> Result<Listing, Stop>
     ensures { Follows (file listing_found meta_text name.now) (F.state files.old) (F.state files.new) result }

@@ -19,7 +19,6 @@ pub fn listing_text(alloc: Global, listing: &Listing) -> Result<Vec<u8>, AllocEr
     Ok(text)
 }
 
-/// The line of a metatile.
 fn meta_line(alloc: Global, meta: Meta) -> Result<String, AllocError>
     ensures { IfOk result (λ s. string_bytes s ≡ meta_line meta) }
 {
@@ -27,7 +26,6 @@ fn meta_line(alloc: Global, meta: Meta) -> Result<String, AllocError>
     format!(in alloc; "{z} {x} {y}\n")
 }
 
-/// The line of a tile.
 fn entry_line(alloc: Global, entry: Entry) -> Result<String, AllocError>
     ensures { IfOk result (λ s. string_bytes s ≡ entry_line entry) }
 {

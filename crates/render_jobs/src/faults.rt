@@ -46,7 +46,7 @@ impl From<AllocError> for ResumeFault {
     }
 }
 
-/// Whether the style that a map was given last is one of the table for that map, or there is none.
+// Whether the style that a map was given last is one of the table for that map, or there is none.
 fn is_style_at(setup: &Setup, map: usize, style: Option<u32>) -> bool
     ensures { result ≡ is_style_at setup.now map style }
 {
@@ -59,7 +59,6 @@ fn is_style_at(setup: &Setup, map: usize, style: Option<u32>) -> bool
     }
 }
 
-/// The first style that is none of its map is refused.
 fn check_styles(setup: &Setup, styles: &[Option<u32>]) -> Result<(), ResumeFault>
     ensures { cause result ≡ styles_fault setup.now styles.now }
 {
@@ -71,7 +70,6 @@ fn check_styles(setup: &Setup, styles: &[Option<u32>]) -> Result<(), ResumeFault
     Ok(())
 }
 
-/// The number of an update.
 fn number_of(past: Past) -> u32
     ensures { result ≡ past_number past }
 {
@@ -81,14 +79,13 @@ fn number_of(past: Past) -> u32
     }
 }
 
-/// Whether the update is in the table.
 fn has_update(setup: &Setup, past: Past) -> bool
     ensures { result ≡ nat_lt (past_number past) (length setup.now.updates) }
 {
     setup.update(number_of(past)).is_some()
 }
 
-/// The first update that is not in the table is refused. The places go on from those of the styles.
+// The first update that is not in the table is refused. The places go on from those of the styles.
 fn check_updates(setup: &Setup, styles: u64, updates: &[Past]) -> Result<(), ResumeFault>
     requires { styles + length updates.now < 2 ^ 64 }
     ensures { cause result ≡ updates_fault setup.now styles updates.now }
@@ -101,7 +98,6 @@ fn check_updates(setup: &Setup, styles: u64, updates: &[Past]) -> Result<(), Res
     Ok(())
 }
 
-/// Whether the plan has the map of the metatile, up to its zoom.
 fn can_show(setup: &Setup, key: Key) -> bool
     ensures { result ≡ can_show setup.now key }
 {
@@ -111,7 +107,7 @@ fn can_show(setup: &Setup, key: Key) -> bool
     }
 }
 
-/// The first clean metatile that the plan does not have is refused.
+// The first clean metatile that the plan does not have is refused.
 fn check_clean(setup: &Setup, clean: &[Kept]) -> Result<(), ResumeFault>
     ensures { cause result ≡ kept_fault setup.now clean.now }
 {

@@ -103,14 +103,14 @@ impl Job {
         self.share
     }
 
-    /// The map's style as it was at the claim; takes no memory.
+    /// The map's style as it was at the claim.
     pub fn style(&self) -> &MapStyle
         ensures { Some result.now ≡ job_style self.now }
     {
         self.share.setup().style(self.map, self.styled)
     }
 
-    /// The data as they were at the claim; takes no memory.
+    /// The data as they were at the claim.
     pub fn snapshot(&self) -> &Snapshot
         ensures { result.now ≡ self.now.data_now }
     {

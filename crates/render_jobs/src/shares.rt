@@ -18,7 +18,7 @@ use std::marker::Model;
 use std::sync::Arc;
 use tile_paths::path;
 
-/// Makes known what the styles of the maps keep.
+// Makes known what the styles of the maps keep.
 fn know_maps(maps: &[MapPlan])
     ensures { All (λ m. IsRanged m.style) maps.now }
 {
@@ -27,7 +27,7 @@ fn know_maps(maps: &[MapPlan])
     }
 }
 
-/// Makes known what the styles that may come keep.
+// Makes known what the styles that may come keep.
 fn know_restyles(restyles: &[Restyle])
     ensures { All (λ r. IsRanged r.style) restyles.now }
 {
@@ -45,7 +45,6 @@ pub fn know_plan(plan: &FarmPlan)
     know_restyles(plan.restyles.as_slice());
 }
 
-/// The place of the map of the name.
 fn place_of(maps: &[MapPlan], name: &[u8]) -> Option<usize>
     ensures { result ≡ position (λ m. bytes_eq m.name name.now) maps.now }
 {

@@ -82,7 +82,6 @@ pub fn touch_key(taken: &mut [Taken], key: Key)
     }
 }
 
-/// Whether the tile overlaps the metatile.
 #[tactic(auto, unfolding(farm_history::specs::Plans::overlaps))]
 fn meets(tile: Tile, key: Key) -> bool
     requires tile { IsTile tile }

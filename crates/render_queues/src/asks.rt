@@ -13,7 +13,7 @@ pub struct Asked {
 }
 
 impl Asked {
-    /// Whether it waits for the key. Columns are compared first, since most asks differ in them.
+    // Whether it waits for the key. Columns are compared first, since most asks differ in them.
     fn is_for(&self, key: Key) -> bool
         ensures { result ≡ waits_on key self.now }
     {

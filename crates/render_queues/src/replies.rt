@@ -6,7 +6,6 @@ ghost use Rattle.render_queues.specs.Tables.{is_of_front, replies_to_conn};
 
 use farm_history::{Conn, Reply};
 
-/// The place of the first reply for the front.
 fn place_of(ended: &[Reply], front: u32) -> Option<usize>
     ensures { result ≡ position (is_of_front front) ended.now }
 {

@@ -47,7 +47,6 @@ impl Model for Waiting {
     } };
 }
 
-/// Whether what stands beside a key is that queue.
 fn is_there(own: Option<Queue>, queue: Queue) -> bool
     ensures { result ≡ is_there own queue }
 {
@@ -61,7 +60,6 @@ fn is_there(own: Option<Queue>, queue: Queue) -> bool
     }
 }
 
-/// The number of that queue.
 fn limit_of(limits: Limits, queue: Queue) -> u32
     ensures { result ≡ limit_of limits queue }
 {
@@ -74,7 +72,6 @@ fn limit_of(limits: Limits, queue: Queue) -> u32
     }
 }
 
-/// The limits with another number for that queue.
 fn with_limit(limits: Limits, queue: Queue, number: u32) -> Limits
     ensures { result ≡ with_limit limits queue number }
 {
@@ -102,7 +99,7 @@ fn with_limit(limits: Limits, queue: Queue, number: u32) -> Limits
     }
 }
 
-/// Moves what still waits to the empty table, in order.
+// Moves what still waits to the empty table, in order.
 fn sift(from: &mut IndexMap<Key, Option<Queue>>, to: &mut IndexMap<Key, Option<Queue>>)
     requires empty { to.old.entries ≡ [] }
     requires fits { length (still_there from.old.entries) ≤ spare to.old }
@@ -120,7 +117,7 @@ fn sift(from: &mut IndexMap<Key, Option<Queue>>, to: &mut IndexMap<Key, Option<Q
     }
 }
 
-/// Makes a place for a key that does not wait, last in the table.
+// Makes a place for a key that does not wait, last in the table.
 fn make_place(
     live: &mut IndexMap<Key, Option<Queue>>,
     other: &mut IndexMap<Key, Option<Queue>>,
@@ -204,7 +201,6 @@ impl Waiting {
         }
     }
 
-    /// The first key of the queue. A queue in which nothing waits is not looked for.
     fn first(&self, queue: Queue) -> Option<Key>
         ensures { result ≡ slice_get (line_of self.now queue).keys 0 }
     {

@@ -34,8 +34,8 @@ enum Next {
     End(WorkEnd),
 }
 
-/// Claims. A job is drawn after the gate let it pass, staged while no turn is taken, and handed back; then the
-/// fronts are woken, and what its staging has left is removed.
+// Claims. A job is drawn after the gate let it pass, staged while no turn is taken, and handed back; then the
+// fronts are woken, and what its staging has left is removed.
 fn round<R: Wait, D: TileStore, G: Stage, B: Bell>(
     rt: &R,
     alloc: Global,

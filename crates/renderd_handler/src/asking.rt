@@ -35,7 +35,7 @@ pub fn say(response: &mut Vec<u8>, request: &Request, command: u32) -> Result<()
     Ok(())
 }
 
-/// Keeps a request that waits, with the number of its ask.
+// Keeps a request that waits, with the number of its ask.
 fn keep(waits: &mut Vec<Waiting>, number: u64, request: Request) -> Result<(), NoMemory>
     requires { IsTrue (is_version request.ver) }
     ensures { OnOk result (pairs waits.new.items ≡ pairs waits.old.items ++ (number, request) ∷ []) }
@@ -44,7 +44,7 @@ fn keep(waits: &mut Vec<Waiting>, number: u64, request: Request) -> Result<(), N
     Ok(())
 }
 
-/// Says what is answered at once to a request, or keeps the request where it waits.
+// Says what is answered at once to a request, or keeps the request where it waits.
 fn settle(
     waits: &mut Vec<Waiting>,
     response: &mut Vec<u8>,

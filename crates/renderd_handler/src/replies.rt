@@ -10,14 +10,12 @@ use crate::words::outcome_command;
 use farm_base::NoMemory;
 use farm_history::Reply;
 
-/// The place of the ask of the number.
 fn place_of(waits: &[Waiting], ask: u64) -> Option<usize>
     ensures { result ≡ position (λ w. w.number == ask) waits.now }
 {
     waits.iter().position(|waiting| waiting.number == ask)
 }
 
-/// Takes the ask of the number out of those that wait.
 fn take_wait(waits: &mut Vec<Waiting>, ask: u64) -> Option<Waiting>
     ensures found { option_map pair_of result ≡ find (is_wait ask) (pairs waits.old.items) }
     ensures left { pairs waits.new.items ≡ without_first (is_wait ask) (pairs waits.old.items) }

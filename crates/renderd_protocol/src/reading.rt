@@ -26,14 +26,12 @@ pub fn next(bytes: &[u8]) -> Found
     Found::Message(read_request(bytes, ver), len)
 }
 
-/// Whether there is such a version of the protocol.
 fn is_known(ver: u32) -> bool
     ensures { result ≡ is_version ver }
 {
     ver == 1 || ver == 2 || ver == 3
 }
 
-/// The bytes of a message of a version.
 fn length_of(ver: u32) -> usize
     ensures { result ≡ message_len ver }
 {
@@ -44,7 +42,6 @@ fn length_of(ver: u32) -> usize
     }
 }
 
-/// The number in the four bytes at a place.
 fn read_number(bytes: &[u8], place: usize) -> u32
     requires { place + 4 ≤ length bytes.now }
     ensures { result ≡ number_at place bytes.now }
@@ -52,7 +49,6 @@ fn read_number(bytes: &[u8], place: usize) -> u32
     LittleEndian::read_u32(&bytes[place..])
 }
 
-/// The text that the bytes of a field begin with.
 #[tactic(auto, using(crate::proofs::Texts::text_more, crate::proofs::Texts::text_ends))]
 fn text_of(field: &[u8]) -> ArrayVec<u8, TEXT_BYTES>
     requires { length field.now ≤ TEXT_BYTES }
@@ -68,7 +64,6 @@ fn text_of(field: &[u8]) -> ArrayVec<u8, TEXT_BYTES>
     text
 }
 
-/// The text of the field at a place.
 fn read_text(bytes: &[u8], place: usize) -> ArrayVec<u8, TEXT_BYTES>
     requires { place + TEXT_BYTES ≤ length bytes.now }
     ensures { result.items ≡ text_at place bytes.now }
@@ -76,7 +71,6 @@ fn read_text(bytes: &[u8], place: usize) -> ArrayVec<u8, TEXT_BYTES>
     text_of(&bytes[place..place + TEXT_BYTES])
 }
 
-/// The text of a field that stands in the versions from `least` on.
 fn read_text_from(bytes: &[u8], ver: u32, least: u32, place: usize) -> ArrayVec<u8, TEXT_BYTES>
     requires version { ver ≡ number_at 0 bytes.now }
     requires whole { least ≤ ver → place + TEXT_BYTES ≤ length bytes.now }
@@ -88,7 +82,6 @@ fn read_text_from(bytes: &[u8], ver: u32, least: u32, place: usize) -> ArrayVec<
     read_text(bytes, place)
 }
 
-/// The request of a whole message.
 fn read_request(bytes: &[u8], ver: u32) -> Request
     requires version { ver ≡ number_at 0 bytes.now }
     requires known { IsTrue (is_version ver) }

@@ -9,7 +9,7 @@ use arrayvec::ArrayVec;
 use byteorder::{ByteOrder, LittleEndian};
 
 /// The message of a request with this command in place of its own: an answer repeats the request.
-/// Texts that the request's version has no place for are left out. Takes no memory.
+/// Texts that the request's version has no place for are left out.
 #[tactic(auto, unfolding(crate::specs::Messages::wire_of))]
 pub fn write(r: &Request, cmd: u32) -> ArrayVec<u8, MESSAGE_BYTES>
     requires { IsTrue (is_version r.now.ver) }
@@ -33,7 +33,6 @@ pub fn write(r: &Request, cmd: u32) -> ArrayVec<u8, MESSAGE_BYTES>
     out
 }
 
-/// Appends a number in four bytes.
 fn put_number(out: &mut ArrayVec<u8, MESSAGE_BYTES>, number: u32)
     requires { array_vec_len out.old + 4 ≤ MESSAGE_BYTES }
     ensures items { out.new.items ≡ out.old.items ++ little_bytes 4 number }
@@ -44,7 +43,6 @@ fn put_number(out: &mut ArrayVec<u8, MESSAGE_BYTES>, number: u32)
     out.try_extend_from_slice(&bytes).unwrap();
 }
 
-/// Appends so many zero bytes.
 fn put_zeros(out: &mut ArrayVec<u8, MESSAGE_BYTES>, count: usize)
     requires { array_vec_len out.old + count ≤ MESSAGE_BYTES }
     ensures items { out.new.items ≡ out.old.items ++ replicate count 0 }
@@ -55,7 +53,6 @@ fn put_zeros(out: &mut ArrayVec<u8, MESSAGE_BYTES>, count: usize)
     }
 }
 
-/// Appends the field of a text: the text, and NULs up to its 41 bytes.
 fn put_text(out: &mut ArrayVec<u8, MESSAGE_BYTES>, text: &ArrayVec<u8, TEXT_BYTES>)
     requires { array_vec_len out.old + 41 ≤ MESSAGE_BYTES }
     ensures items { out.new.items ≡ out.old.items ++ field_of text.now.items }

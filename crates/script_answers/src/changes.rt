@@ -8,7 +8,7 @@ use farm_base::{ApplyFault, NoMemory, Text};
 use farm_history::{Renewed, Restyled, Updated};
 use std::alloc::Global;
 
-/// An update that does not fit the data.
+// An update that does not fit the data.
 fn refused_line(alloc: Global, fault: ApplyFault) -> Result<Text, NoMemory>
     ensures { IfOk result (λ t. spec.fault_line fault ≡ Some t) }
 {

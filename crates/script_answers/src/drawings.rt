@@ -7,7 +7,6 @@ use farm_base::{NoMemory, Text};
 use farm_history::{ClaimAnswer, Finished, Key};
 use std::alloc::Global;
 
-/// The numbers of a metatile's lowest tile.
 fn place_words(alloc: Global, key: Key) -> Result<Text, NoMemory>
     ensures { IfOk result (λ t. t ≡ parts.place_words key) }
 {
@@ -15,7 +14,6 @@ fn place_words(alloc: Global, key: Key) -> Result<Text, NoMemory>
     Ok(Text::from_string(format!(in alloc; "{z} {x} {y}")?))
 }
 
-/// A drawing to make, by its place in words.
 fn job_words(
     alloc: Global,
     ticket: u64,
@@ -28,7 +26,6 @@ fn job_words(
     Ok(Text::from_string(format!(in alloc; "job {ticket} {name} {place} {version}\n")?))
 }
 
-/// A drawing to make.
 fn job_line(
     alloc: Global,
     ticket: u64,

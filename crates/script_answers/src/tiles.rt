@@ -21,7 +21,6 @@ fn meta_number(fault: MetaFault) -> u64
     }
 }
 
-/// The line before a tile's bytes.
 fn tile_head(alloc: Global, word: &str, version: u64, bytes: &Bytes) -> Result<Text, NoMemory>
     ensures { IfOk result (λ t. t ≡ parts.tile_head word.now version bytes.now) }
 {

@@ -15,7 +15,6 @@ use script_text::{Script, ScriptEnd, ScriptRun, run_noting};
 use std::alloc::Global;
 use tile_store::TileStore;
 
-/// How the command ends whose script ran so.
 fn end_of(run: ScriptRun) -> Result<(), Stop>
     ensures { result ≡ command_end run.failed run.end }
 {
@@ -32,7 +31,6 @@ fn end_of(run: ScriptRun) -> Result<(), Stop>
     }
 }
 
-/// Runs the script on a farm that just began, and hands its store back.
 fn run_on<D: TileStore, O: Sink>(
     alloc: Global,
     farm: Farm<D>,
@@ -48,7 +46,6 @@ fn run_on<D: TileStore, O: Sink>(
     (end_of(run), farm.into_store())
 }
 
-/// Runs a script on a farm of the plan over the store.
 fn run_over<D: TileStore, O: Sink>(
     alloc: Global,
     scripted: ScriptInputs,

@@ -13,7 +13,6 @@ use line_reading::cut;
 use reading::line_text;
 use std::alloc::Global;
 
-/// `ask C CMD MAP Z X Y`, by the words behind `ask`.
 #[tactic(auto, unfolding(crate::specs::Lines::ask_of))]
 fn ask(alloc: Global, text: &str, fault: ScriptFault) -> Result<ScriptLine, ScriptFault>
     ensures { Gives NoMemory (λ l. l) (spec.ask_of fault text.now) result }
@@ -26,7 +25,6 @@ fn ask(alloc: Global, text: &str, fault: ScriptFault) -> Result<ScriptLine, Scri
     Ok(ScriptLine::Ask(conn, cmd, Text::of(alloc, map)?, z, x, y))
 }
 
-/// `fetch MAP Z X Y`.
 fn fetch(alloc: Global, text: &str, fault: ScriptFault) -> Result<ScriptLine, ScriptFault>
     ensures { Gives NoMemory (λ l. l) (inner.fetch_of fault text.now) result }
 {
@@ -34,7 +32,6 @@ fn fetch(alloc: Global, text: &str, fault: ScriptFault) -> Result<ScriptLine, Sc
     Ok(ScriptLine::Fetch(Text::of(alloc, map)?, z, x, y))
 }
 
-/// `look MAP Z X Y`.
 fn look(alloc: Global, text: &str, fault: ScriptFault) -> Result<ScriptLine, ScriptFault>
     ensures { Gives NoMemory (λ l. l) (inner.look_of fault text.now) result }
 {
@@ -42,7 +39,6 @@ fn look(alloc: Global, text: &str, fault: ScriptFault) -> Result<ScriptLine, Scr
     Ok(ScriptLine::Look(Text::of(alloc, map)?, z, x, y))
 }
 
-/// `expire Z X Y`.
 fn expire(text: &str, fault: ScriptFault) -> Result<ScriptLine, ScriptFault>
     ensures { result ≡ inner.expire_of fault text.now }
 {
@@ -50,7 +46,6 @@ fn expire(text: &str, fault: ScriptFault) -> Result<ScriptLine, ScriptFault>
     Ok(ScriptLine::Expire(z, x, y))
 }
 
-/// The line of this name with these words behind it.
 #[tactic(auto, unfolding(crate::specs::Lines::line_named))]
 fn named(
     alloc: Global,
@@ -77,7 +72,6 @@ fn named(
     }
 }
 
-/// The line that is one word.
 #[tactic(auto, unfolding(crate::specs::Lines::line_alone))]
 fn alone(word: &str, fault: ScriptFault) -> Result<ScriptLine, ScriptFault>
     ensures { result ≡ spec.line_alone fault word.now }

@@ -47,7 +47,6 @@ pub fn command(word: &str, fault: ScriptFault) -> Result<Cmd, ScriptFault>
     cmd(word).ok_or(fault)
 }
 
-/// The name of a map.
 fn map(word: &str, fault: ScriptFault) -> Result<&str, ScriptFault>
     ensures { seen (λ s. s.now) result ≡ inner.map_word fault word.entry.now }
 {

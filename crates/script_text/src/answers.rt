@@ -19,7 +19,6 @@ use script_lines::ScriptLine;
 use std::alloc::Global;
 use tile_store::TileStore;
 
-/// `expire Z X Y`: numbers of no tile are no event.
 fn expire_at<D: TileStore>(
     alloc: Global,
     farm: &mut Farm<D>,

@@ -18,14 +18,12 @@ use script_answers::{
 use std::alloc::Global;
 use tile_store::TileStore;
 
-/// A connection of front 0.
 fn conn_at(number: u32) -> Conn
     ensures { result ≡ conn_of number }
 {
     Conn { front: 0, number }
 }
 
-/// A spot by the name of its map, which need not be one of the farm.
 fn spot_at<D>(farm: &Farm<D>, map: &Text, place: (u32, u32, u32)) -> Spot
     ensures { result ≡ script_spot farm.now.plan map.now place.0 place.1 place.2 }
 {

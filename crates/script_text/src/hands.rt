@@ -21,7 +21,6 @@ use script_answers::{claim_line, finish_line};
 use std::alloc::Global;
 use tile_store::TileStore;
 
-/// The place of the job of the ticket.
 fn place_of(hand: &[Job], ticket: u64) -> Option<usize>
     ensures { result ≡ position (λ j. j.ticket == ticket) hand.now }
 {
@@ -37,7 +36,6 @@ pub(crate) fn take_job(hand: &mut Vec<Job>, ticket: u64) -> Option<Job>
     Some(hand.remove(place))
 }
 
-/// The answer of a claim of a job.
 fn job_line<D>(alloc: Global, farm: &Farm<D>, job: &Job) -> Result<Text, NoMemory>
     requires { job.now.plan ≡ farm.now.plan }
     ensures { IfOk result (λ t. t ≡ claim_line (names_of farm.now.plan) (ClaimAnswer.Job job.now.ticket (job_key job.now) job.now.version)) }
@@ -46,7 +44,6 @@ fn job_line<D>(alloc: Global, farm: &Farm<D>, job: &Job) -> Result<Text, NoMemor
     claim_line(alloc, farm.map_name(job.map), answer)
 }
 
-/// Answers a claim of a job, and takes the job in hand.
 fn take_in_hand<D>(
     alloc: Global,
     farm: &Farm<D>,

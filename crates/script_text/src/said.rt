@@ -60,7 +60,6 @@ pub fn is_failed_fetch(answer: &Fetched) -> bool
     }
 }
 
-/// The tile of a fetch, if it gives one.
 fn tile_of(answer: Fetched) -> Option<Bytes>
     ensures { behind result ≡ fetch_rest answer }
 {
@@ -86,7 +85,6 @@ pub(crate) fn fetch_said(alloc: Global, answer: Fetched) -> Result<LineAnswer, N
     })
 }
 
-/// Puts a tile's bytes and a newline.
 #[tactic(auto, using(crate::proofs::Puts::puts_then, crate::proofs::Puts::puts_first))]
 fn put_tile<O: Sink>(out: &mut O, bytes: &[u8]) -> Result<(), SinkFault>
     ensures { Puts (O.state out.old) (O.state out.new) (behind (Some bytes.now)) result }
@@ -95,7 +93,6 @@ fn put_tile<O: Sink>(out: &mut O, bytes: &[u8]) -> Result<(), SinkFault>
     out.put(b"\n")
 }
 
-/// Puts what stands behind the first line of an answer.
 #[tactic(auto, using(crate::proofs::Puts::puts_nothing))]
 fn put_behind<O: Sink>(out: &mut O, tile: &Option<Bytes>) -> Result<(), SinkFault>
     ensures { Puts (O.state out.old) (O.state out.new) (behind tile.now) result }
@@ -106,7 +103,6 @@ fn put_behind<O: Sink>(out: &mut O, tile: &Option<Bytes>) -> Result<(), SinkFaul
     }
 }
 
-/// Puts the first line of an answer, and what stands behind it.
 #[tactic(auto, using(crate::proofs::Puts::puts_then, crate::proofs::Puts::puts_first))]
 fn put_parts<O: Sink>(out: &mut O, head: &str, tile: &Option<Bytes>) -> Result<(), SinkFault>
     ensures { Puts (O.state out.old) (O.state out.new) (head.now ++ behind tile.now) result }

@@ -24,8 +24,8 @@ pub(crate) fn listen<R: Net + rt::Files>(rt: &R, address: &str) -> io::Result<Li
     Err(io::Error::from(io::ErrorKind::InvalidInput))
 }
 
-/// Removes a socket file at which nobody listens, as an earlier run leaves it. Any other file stays: a
-/// plain file refuses a connection too.
+// Removes a socket file at which nobody listens, as an earlier run leaves it. Any other file stays: a
+// plain file refuses a connection too.
 fn clear<R: Net + rt::Files>(rt: &R, path: &str) -> io::Result<()> {
     let Ok(about) = fs::symlink_metadata(rt, path) else {
         return Ok(());

@@ -139,7 +139,6 @@ impl<R: Net + rt::Files> SocketPorts<R> {
         })
     }
 
-    /// What is waited with, which the system gives once.
     fn watch(&mut self) -> io::Result<()>
         ensures { self.new.faults ≡ self.old.faults }
     {
@@ -154,7 +153,6 @@ impl<R: Net + rt::Files> SocketPorts<R> {
         Ok(())
     }
 
-    /// Listens at the address.
     fn bind(&mut self, address: &str) -> io::Result<()>
         ensures { self.new.faults ≡ self.old.faults }
     {
@@ -176,14 +174,13 @@ impl<R: Net + rt::Files> SocketPorts<R> {
             .ok()
     }
 
-    /// Counts a failure.
     fn count(&mut self)
         ensures { Counted self.old.faults self.new.faults }
     {
         self.faults = self.faults.saturating_add(1);
     }
 
-    /// Lets a connection go. Its descriptor is free, so that another one may be accepted.
+    // Lets a connection go. Its descriptor is free, so that another one may be accepted.
     fn remove(&mut self, place: usize)
         requires { place < vec_len self.old.links }
         ensures { self.new.faults ≡ self.old.faults }
@@ -197,7 +194,6 @@ impl<R: Net + rt::Files> SocketPorts<R> {
         self.queue.is_empty() && !self.can_accept && !self.woken
     }
 
-    /// How long there is nothing to do but wait.
     fn patience(&self) -> Option<Duration> {
         if !self.is_idle() {
             Some(Duration::ZERO)
@@ -208,7 +204,6 @@ impl<R: Net + rt::Files> SocketPorts<R> {
         }
     }
 
-    /// Asks the system what is new, and waits where there is nothing to do.
     fn note(&mut self) -> io::Result<()>
         ensures { self.new.faults ≡ self.old.faults }
     {
@@ -243,7 +238,6 @@ impl<R: Net + rt::Files> SocketPorts<R> {
         Ok(())
     }
 
-    /// Asks the system where there is nothing to do, and now and then where there is.
     fn refresh(&mut self) -> io::Result<()>
         ensures { self.new.faults ≡ self.old.faults }
     {
@@ -253,8 +247,8 @@ impl<R: Net + rt::Files> SocketPorts<R> {
         Ok(())
     }
 
-    /// Accepts a connection, if one waits. Where it can't be accepted, for want of descriptors or of
-    /// memory, it waits on.
+    // Accepts a connection, if one waits. Where it can't be accepted, for want of descriptors or of
+    // memory, it waits on.
     fn accept(&mut self) -> Option<PortEvent>
         ensures event { IfSome result (λ e. IsQuiet e) }
         ensures same { self.new.faults ≡ self.old.faults }
@@ -285,7 +279,6 @@ impl<R: Net + rt::Files> SocketPorts<R> {
         }
     }
 
-    /// Accepts no more until a connection goes, or a moment has passed.
     fn crowd(&mut self)
         ensures { self.new.faults ≡ self.old.faults }
     {
@@ -293,7 +286,6 @@ impl<R: Net + rt::Files> SocketPorts<R> {
         self.crowded = true;
     }
 
-    /// Takes in a connection that was accepted.
     fn admit(&mut self, conn: u32, stream: Stream) -> Option<PortEvent>
         ensures event { IfSome result (λ e. IsQuiet e) }
         ensures same { self.new.faults ≡ self.old.faults }
@@ -311,7 +303,6 @@ impl<R: Net + rt::Files> SocketPorts<R> {
         Some(PortEvent::Opened(conn))
     }
 
-    /// What there is on a connection, if anything.
     fn hear(&mut self, place: usize, room: &mut Vec<u8>) -> Option<PortEvent>
         requires { place < vec_len self.old.links }
         ensures event { IfSome result (λ e. IsPieceOf e room.new.items × EventCounts self.old.faults self.new.faults e) }
@@ -334,8 +325,8 @@ impl<R: Net + rt::Files> SocketPorts<R> {
         }
     }
 
-    /// What there is on the connection that stands first in the queue, if anything. Where there may be
-    /// more on it, it goes to the queue's end.
+    // What there is on the connection that stands first in the queue, if anything. Where there may be
+    // more on it, it goes to the queue's end.
     fn hear_first(&mut self, room: &mut Vec<u8>) -> Option<PortEvent>
         ensures event { IfSome result (λ e. IsPieceOf e room.new.items × EventCounts self.old.faults self.new.faults e) }
         ensures none { IfNone result (self.new.faults ≡ self.old.faults) }
@@ -357,8 +348,8 @@ impl<R: Net + rt::Files> SocketPorts<R> {
         event
     }
 
-    /// The next event of what is known, if there is one: first a bell, then a new connection and what
-    /// there is on one in turn.
+    // The next event of what is known, if there is one: first a bell, then a new connection and what
+    // there is on one in turn.
     fn ready(&mut self, room: &mut Vec<u8>) -> Option<PortEvent>
         ensures event { IfSome result (λ e. IsPieceOf e room.new.items × EventCounts self.old.faults self.new.faults e) }
         ensures none { IfNone result (self.new.faults ≡ self.old.faults) }

@@ -57,7 +57,6 @@ impl Shape for Body {
     }
 }
 
-// Whether both ends lie between two places.
 fn ends_between(s: Segment, west: u32, east: u32) -> bool {
     west <= s.a.x.min(s.b.x) && s.a.x.max(s.b.x) <= east
 }

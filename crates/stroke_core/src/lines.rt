@@ -18,7 +18,6 @@ use plain_shapes::{LineCap, Path};
 use plain_world::{Point, Window};
 use std::alloc::Global;
 
-// Covers the pixels of the body of the segment from `a` to `b`.
 fn mark_body<K: Surface>(half: u32, a: Point, b: Point, w: Window, mask: &mut K)
     requires half { half ≤ 2 ^ 31 }
     requires a { InWorld a }
@@ -140,7 +139,6 @@ fn mark_ends<K: Surface>(
     }
 }
 
-// Covers the pixels of a line of one point.
 fn mark_dot<K: Surface>(half: u32, cap: LineCap, p: Point, w: Window, mask: &mut K)
     requires half { half ≤ 2 ^ 31 }
     requires p { InWorld p }
@@ -158,7 +156,6 @@ fn mark_dot<K: Surface>(half: u32, cap: LineCap, p: Point, w: Window, mask: &mut
     }
 }
 
-// Covers the pixels of a line of two points or more.
 fn mark_long<K: Surface>(half: u32, cap: LineCap, ps: &[Point], w: Window, mask: &mut K)
     requires half { half ≤ 2 ^ 31 }
     requires some { 2 ≤ length ps.now }
@@ -176,7 +173,6 @@ fn mark_long<K: Surface>(half: u32, cap: LineCap, ps: &[Point], w: Window, mask:
     mark_ends(half, cap, ps[0], ps[1], ps[n - 2], ps[n - 1], w, mask);
 }
 
-// Covers the pixels of a line none of whose points equals the one before.
 fn mark_line<K: Surface>(half: u32, cap: LineCap, ps: &[Point], w: Window, mask: &mut K)
     requires half { half ≤ 2 ^ 31 }
     requires points { All InWorld ps.now }
@@ -197,7 +193,6 @@ fn mark_line<K: Surface>(half: u32, cap: LineCap, ps: &[Point], w: Window, mask:
     mark_long(half, cap, ps, w, mask);
 }
 
-// Covers the pixels of one line.
 fn stroke_line<K: Surface>(
     alloc: Global,
     line: &Path,

@@ -14,7 +14,6 @@ pub struct Difference {
     pub minus: Growing,
 }
 
-/// The product of two coordinates.
 fn times(m: u32, n: u32) -> u64
     ensures value { result ≡ m * n }
     ensures small { m ≤ 2 ^ 30 → n ≤ 2 ^ 30 → result ≤ 2 ^ 60 }
@@ -113,7 +112,6 @@ pub fn long(a: Point, b: Point) -> u64
     square(x) + square(y)
 }
 
-// The square of a distance in the world.
 fn square(n: u64) -> u64
     requires { n ≤ 2 ^ 31 }
     ensures value { result ≡ n * n }

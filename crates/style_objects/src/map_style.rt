@@ -28,7 +28,6 @@ const WHITE: Colour = Colour {
     b: 255,
 };
 
-/// The map of these lists: its rasters, then its styles, then its layers.
 #[tactic(auto, unfolding(crate::specs::inner::Parts::map_lists))]
 fn map_lists(
     alloc: Global,

@@ -24,7 +24,6 @@ use reading::{ReadItem, read_list, within};
 use serde_json::Value;
 use std::alloc::Global;
 
-// A rule's filter, and whether it is an ElseFilter rule.
 #[tactic(auto, using(crate::proofs::Opening::some_tree), unfolding(crate::specs::Tables::filters_of))]
 fn filters(alloc: Global, object: &Value, at: At) -> Result<(Option<Expr>, bool), StyleFault>
     ensures value { Gives fault.NoMemory (λ p. (option_map tree_of p.0, p.1)) (spec.filters_of text_reading at (view object.now)) result }
@@ -40,7 +39,6 @@ fn filters(alloc: Global, object: &Value, at: At) -> Result<(Option<Expr>, bool)
     }
 }
 
-// What a rule has behind its filters: its two scales and its symbolizers.
 #[tactic(auto, unfolding(crate::specs::inner::Parts::painting_of))]
 fn painting(
     alloc: Global,

@@ -34,14 +34,13 @@ pub fn read_head(bytes: &[u8]) -> Head<'_>
     }
 }
 
-/// More is waited for, but where all is there that is read.
 fn open_unless<'a>(ended: bool) -> Head<'a>
     ensures { result ≡ spec.open_unless ended }
 {
     if ended { Head::Bad } else { Head::Open }
 }
 
-/// Whether two newlines stand in the bytes with nothing or one carriage return between them.
+// Whether two newlines stand in the bytes with nothing or one carriage return between them.
 fn has_empty_line(bytes: &[u8]) -> bool
     ensures { result ≡ spec.has_empty_line bytes.now }
 {
@@ -55,7 +54,6 @@ fn has_empty_line(bytes: &[u8]) -> bool
     false
 }
 
-/// Whether the bytes begin with the end of a line.
 fn ends_line(bytes: &[u8]) -> bool
     ensures { result ≡ spec.ends_line bytes.now }
 {

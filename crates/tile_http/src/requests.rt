@@ -37,7 +37,6 @@ pub fn read_request(bytes: &[u8]) -> Request<'_>
     }
 }
 
-/// What a whole head asks for.
 fn request_of<'a>(method: &[u8], target: &'a [u8]) -> Request<'a>
     requires { IsUtf8 target.now }
     ensures { Targets method.now target.entry.now result }

@@ -63,7 +63,6 @@ pub fn read_target(text: &str) -> Option<Target<'_>>
     })
 }
 
-/// The name before the first slash, and what follows it.
 fn read_name(text: &str) -> Option<(&str, &str)>
     ensures some { IfSome result (λ found. IsName found.0.now × (text.entry.now ≡ found.0.now ++ 47 ∷ found.1.now)) }
     ensures every { (name rest : List ℕ) → IsName name → text.entry.now ≡ name ++ 47 ∷ rest
@@ -78,7 +77,6 @@ fn read_name(text: &str) -> Option<(&str, &str)>
     Some((name, rest))
 }
 
-/// The number before the first `end`, and what follows it.
 fn read_number(text: &str, end: char) -> Option<(u32, &str)>
     requires { end < 48 }
     ensures some { IfSome result (λ found. (found.0 < 2 ^ 32) × (text.entry.now ≡ decimal found.0 ++ end ∷ found.1.now)) }
@@ -94,7 +92,6 @@ fn read_number(text: &str, end: char) -> Option<(u32, &str)>
     }
 }
 
-/// What is asked by the end of a target.
 fn read_kind(text: &str) -> Option<Kind>
     ensures some { IfSome result (λ k. text.now ≡ ending k) }
     ensures every { (k : Kind) → text.now ≡ ending k → IsSomeAnd result (λ found. found ≡ k) }

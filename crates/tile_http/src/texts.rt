@@ -13,7 +13,7 @@ pub(crate) fn put(response: &mut Vec<u8>, bytes: &[u8]) -> Result<(), NoMemory>
     Ok(())
 }
 
-/// An answer of this status: its head, with more lines that may be none, and its body.
+// An answer of this status: its head, with more lines that may be none, and its body.
 fn put_answer(
     alloc: Global,
     status: &str,
@@ -29,7 +29,6 @@ fn put_answer(
     put(response, body)
 }
 
-/// The head of an answer.
 #[tactic(auto, unfolding(crate::specs::Answers::response_head))]
 fn head(alloc: Global, status: &str, kind: &str, len: usize, more: &str) -> Result<Text, NoMemory>
     ensures { IfOk result (λ t. t ≡ spec.response_head status.now kind.now len more.now) }
@@ -74,7 +73,6 @@ pub(crate) fn put_picture(
     )
 }
 
-/// The lines that tell of a tile.
 #[tactic(auto, unfolding(crate::specs::Answers::tile_lines))]
 fn tile_lines(alloc: Global, word: &str, version: u64) -> Result<Text, NoMemory>
     ensures { IfOk result (λ t. t ≡ spec.tile_lines word.now version) }

@@ -29,7 +29,6 @@ pub fn put_tile(alloc: Global, fetched: &Fetched, response: &mut Vec<u8>) -> Res
     }
 }
 
-/// The line of a word and a data version.
 fn versioned(alloc: Global, word: &str, version: u64) -> Result<Text, NoMemory>
     ensures { IfOk result (λ t. t ≡ spec.version_line word.now version) }
 {

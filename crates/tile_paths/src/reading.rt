@@ -48,7 +48,6 @@ struct Parts<'a> {
     y: u32,
 }
 
-/// The number before the first byte `end`, and what follows that byte.
 fn read_number(text: &str, end: char) -> Option<(u8, &str)>
     requires { end < 48 }
     ensures { (n : ℕ) (rest : List ℕ) → n < 256 → text.now ≡ decimal n ++ end ∷ rest
@@ -63,7 +62,6 @@ fn read_number(text: &str, end: char) -> Option<(u8, &str)>
     }
 }
 
-/// The name before the first slash, and what follows it.
 fn read_name(text: &str) -> Option<(&str, &str)>
     ensures { (name rest : List ℕ) → IsName name → text.now ≡ name ++ 47 ∷ rest
         → IsSomeAnd result (λ found. (found.0.now ≡ name) × (found.1.now ≡ rest)) }
@@ -81,7 +79,6 @@ struct Five {
     h0: u8,
 }
 
-/// The five numbers that stand before the ending.
 fn read_five(text: &str) -> Option<Five>
     ensures { (h4 h3 h2 h1 h0 : ℕ) → h4 < 256 → h3 < 256 → h2 < 256 → h1 < 256 → h0 < 256
         → text.now ≡ spec.five h4 h3 h2 h1 h0
@@ -105,7 +102,6 @@ fn read_five(text: &str) -> Option<Five>
     Some(Five { h4, h3, h2, h1, h0 })
 }
 
-/// What a path is made of.
 fn read_parts(text: &str) -> Option<Parts<'_>>
     ensures { (name : List ℕ) (m : Meta) → IsName name → IsMeta m → text.now ≡ path_of name m
         → IsSomeAnd result (λ found. (found.name.now ≡ name) × (found.z ≡ m.z) × (found.x ≡ m.x) × (found.y ≡ m.y)) }
@@ -127,7 +123,6 @@ fn read_parts(text: &str) -> Option<Parts<'_>>
     })
 }
 
-/// The upper four bits of each number, one after another.
 fn high_bits(five: Five) -> u32
     ensures { result ≡ (((five.h4 / 16 * 16 + five.h3 / 16) * 16 + five.h2 / 16) * 16 + five.h1 / 16) * 16 + five.h0 / 16 }
 {
@@ -136,7 +131,6 @@ fn high_bits(five: Five) -> u32
     four * 16 + upper(five.h0)
 }
 
-/// The lower four bits of each number, one after another.
 fn low_bits(five: Five) -> u32
     ensures { result ≡ (((five.h4 % 16 * 16 + five.h3 % 16) * 16 + five.h2 % 16) * 16 + five.h1 % 16) * 16 + five.h0 % 16 }
 {

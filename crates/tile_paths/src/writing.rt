@@ -34,7 +34,6 @@ pub fn path(name: &str, m: Meta) -> ArrayString<80>
     out
 }
 
-/// Four bits of x beside four bits of y.
 fn beside(x: u32, y: u32) -> u32
     ensures value { result ≡ spec.nibbles x y }
     ensures small { result < 256 }
@@ -42,7 +41,7 @@ fn beside(x: u32, y: u32) -> u32
     x % 16 * 16 + y % 16
 }
 
-/// Appends a slash and a number of at most three digits.
+// Appends a slash and a number of at most three digits.
 #[tactic(auto, using(crate::proofs::Numbers::decimal_short))]
 fn put_number(out: &mut ArrayString<80>, n: u32)
     requires small { n < 256 }

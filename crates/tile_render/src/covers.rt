@@ -41,7 +41,6 @@ pub(crate) enum CoveredPixels {
     Runs(Vec<u32>),
 }
 
-/// Half of a width of so many hundredths of a pixel, in world units, rounded down.
 fn half_of(width: u64, pixel: u32) -> u32
     requires width { width ≤ 100 * most_width }
     requires pixel { pixel ≤ 2 ^ 26 }
@@ -51,8 +50,8 @@ fn half_of(width: u64, pixel: u32) -> u32
     (width * u64::from(pixel) / 200) as u32
 }
 
-/// How far from a feature's points a symbolizer may paint, in world units: to the west and east, and to the
-/// north and south.
+// How far from a feature's points a symbolizer may paint, in world units: to the west and east, and to the
+// north and south.
 fn spread(symbolizer: Symbolizer, pixel: u32) -> (u64, u64)
     requires paint { IsTrue (is_paint symbolizer) }
     requires pixel { pixel ≤ 2 ^ 26 }
@@ -76,7 +75,6 @@ fn spread(symbolizer: Symbolizer, pixel: u32) -> (u64, u64)
     }
 }
 
-/// The pixels of a polygon that is filled; other shapes are not.
 fn fill(alloc: Global, w: Window, feature: &Feature) -> Result<Option<CoveredPixels>, NoMemory>
     requires { IsWindow w }
     ensures { (colour : Colour) (opacity : ℕ) → IfOk result (λ found. Shows w feature.now.geometry (paint.Polygon colour opacity) found) }
@@ -91,7 +89,7 @@ fn fill(alloc: Global, w: Window, feature: &Feature) -> Result<Option<CoveredPix
     }
 }
 
-/// Covers the pixels of lines that are stroked, or of the outlines of a polygon's rings; points have no strokes.
+// Covers the pixels of lines that are stroked, or of the outlines of a polygon's rings; points have no strokes.
 fn stroke<K: Surface>(
     alloc: Global,
     w: Window,
@@ -116,7 +114,7 @@ fn stroke<K: Surface>(
     }
 }
 
-/// Covers the pixels of an ellipse at each point of a shape that is points; other shapes have no marks.
+// Covers the pixels of an ellipse at each point of a shape that is points; other shapes have no marks.
 fn mark<K: Surface>(w: Window, feature: &Feature, width: u64, height: u64, surface: &mut K)
     requires window { IsWindow w }
     requires width { width ≤ 100 * most_width }
@@ -180,7 +178,6 @@ pub(crate) fn cover_on<K: Surface>(
     }
 }
 
-/// Whether a shape is points.
 fn is_points(geometry: &Geometry) -> bool
     ensures { result ≡ is_points geometry.now }
 {
@@ -191,7 +188,6 @@ fn is_points(geometry: &Geometry) -> bool
     }
 }
 
-/// Whether the symbolizer covers shapes of this kind at all.
 fn suits(geometry: &Geometry, symbolizer: Symbolizer) -> bool
     ensures { result ≡ false → (pixel : ℕ) (c : Point) → covers pixel geometry.now c symbolizer ≡ false }
 {
@@ -203,7 +199,7 @@ fn suits(geometry: &Geometry, symbolizer: Symbolizer) -> bool
     }
 }
 
-/// The pixels of a symbolizer that fills nothing, in pieces; none where it covers no shape of that kind.
+// The pixels of a symbolizer that fills nothing, in pieces; none where it covers no shape of that kind.
 fn in_pieces(
     alloc: Global,
     w: Window,
@@ -224,8 +220,8 @@ fn in_pieces(
     Ok(Some(CoveredPixels::Pieces(found)))
 }
 
-/// Those of the window's pixels whose centres the symbolizer covers on the feature; none where it covers
-/// no shape of that kind.
+// Those of the window's pixels whose centres the symbolizer covers on the feature; none where it covers
+// no shape of that kind.
 fn covered_on(
     alloc: Global,
     w: Window,

@@ -18,7 +18,7 @@ use plain_world::Window;
 use std::alloc::Global;
 use tiled_image::TiledImage;
 
-/// The place of `v` among `count` pixels of a grid from `edge` on, and `count` where it lies in none of them.
+// The place of `v` among `count` pixels of a grid from `edge` on, and `count` where it lies in none of them.
 #[tactic(auto, unfolding(crate::specs::inner::GridPlaces::place_in))]
 fn place_in(edge: u32, pixel: u32, count: u32, v: u32) -> u32
     requires { 1 ≤ pixel }
@@ -30,7 +30,7 @@ fn place_in(edge: u32, pixel: u32, count: u32, v: u32) -> u32
     ((v - edge) / pixel).min(count)
 }
 
-/// The grid's column of each column of the window, or the number of its columns where it has none there.
+// The grid's column of each column of the window, or the number of its columns where it has none there.
 fn grid_columns(alloc: Global, w: Window, grid: &Grid) -> Result<Vec<u32>, NoMemory>
     requires window { IsWindow w }
     ensures { IfOk result (λ v. v.items ≡ map (λ i. column_at grid.now (centre w i 0)) (range_with_len 0 w.cols)) }
@@ -43,7 +43,6 @@ fn grid_columns(alloc: Global, w: Window, grid: &Grid) -> Result<Vec<u32>, NoMem
     Ok(columns)
 }
 
-/// Where the run of equal places that begins at `from` ends.
 fn run_end(places: &[u32], from: u32, count: u32) -> u32
     requires count { length places.now ≡ count }
     requires from { from < count }
@@ -57,7 +56,6 @@ fn run_end(places: &[u32], from: u32, count: u32) -> u32
     end
 }
 
-/// For each place the end of the run of equal places that it lies in.
 fn run_ends(alloc: Global, places: &[u32], count: u32) -> Result<Vec<u32>, NoMemory>
     requires { length places.now ≡ count }
     ensures long { IfOk result (λ v. length v.items ≡ length places.now) }
@@ -82,7 +80,6 @@ struct GridColumns {
     ends: Vec<u32>,
 }
 
-/// The columns of the grid under those of the window.
 fn columns_under(alloc: Global, w: Window, grid: &Grid) -> Result<GridColumns, NoMemory>
     requires window { IsWindow w }
     ensures { IfOk result (λ c. IsColumns w grid.now c.columns.items c.ends.items) }
@@ -92,7 +89,6 @@ fn columns_under(alloc: Global, w: Window, grid: &Grid) -> Result<GridColumns, N
     Ok(GridColumns { columns, ends })
 }
 
-/// The colour of the grid's pixel in this column and row.
 fn colour_at(grid: &Grid, col: u32, row: u32) -> Colour
     requires col { col < grid.now.cols }
     requires row { row < grid.now.rows }
@@ -106,7 +102,6 @@ fn colour_at(grid: &Grid, col: u32, row: u32) -> Colour
     }
 }
 
-/// Paints the grid over the pixels of one row whose centres it holds.
 fn blend_row(
     w: Window,
     grid: &Grid,

@@ -45,7 +45,6 @@ impl<'a> Item<'a> {
     }
 }
 
-/// The grid of this name among them, if there is one.
 fn find_grid<'a>(grids: &'a [Grid], name: &str) -> Option<&'a Grid>
     ensures { option_copied result ≡ find (λ g. bytes_eq g.name name.now) grids.now }
 {

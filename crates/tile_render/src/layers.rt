@@ -16,14 +16,13 @@ use plain_drawing::{LayerRef, MapStyle, Style};
 use scale_rules::active;
 use std::alloc::Global;
 
-/// The style of this name among them.
 fn find_style<'a>(styles: &'a [Style], name: &str) -> Option<&'a Style>
     ensures { option_copied result ≡ find (λ s. bytes_eq s.name name.now) styles.now }
 {
     styles.iter().find(|style| style.name.as_str() == name)
 }
 
-/// Draws a layer, if it is at scale: all its items by each of the styles that it names, in order.
+// Draws a layer, if it is at scale: all its items by each of the styles that it names, in order.
 #[tactic(auto, unfolding(plain_drawing::specs::inner::Pictures::with_layer))]
 fn draw_layer<'a>(
     alloc: Global,

@@ -22,7 +22,7 @@ pub struct DrawnMeta {
     pub tiles: Vec<Bytes>,
 }
 
-/// The text of the part of the image that is so many tiles from its west and north edge.
+// The text of the part of the image that is so many tiles from its west and north edge.
 fn cut_tile(
     alloc: Global,
     image: &TiledImage,
@@ -43,7 +43,6 @@ fn cut_tile(
     Ok(Bytes::from_vec(text))
 }
 
-/// Adds the texts of a column of tiles, from north to south.
 fn cut_column(
     alloc: Global,
     image: &TiledImage,
@@ -67,7 +66,6 @@ fn cut_column(
     Ok(())
 }
 
-/// The texts of all tiles of the image, by columns.
 fn cut_tiles(
     alloc: Global,
     image: &TiledImage,

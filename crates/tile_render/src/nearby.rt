@@ -45,7 +45,6 @@ impl<'a> Model for NearData<'a> {
     ghost invariant = { λ n. All (IsKept n.snapshot.now n.around) n.kept.items × (n.around.west ≤ n.around.east) × (n.around.north ≤ n.around.south) };
 }
 
-/// The features that are left of a walk, or none where they are more than so many.
 fn listed<'a>(
     alloc: Global,
     mut walk: NearFeatures<'a>,
@@ -63,7 +62,7 @@ fn listed<'a>(
     Ok(Some(features))
 }
 
-/// What is kept of a layer of data: its features near the rectangle, or none where they are more than so many.
+// What is kept of a layer of data: its features near the rectangle, or none where they are more than so many.
 fn near_layer<'a>(
     alloc: Global,
     source: &Source<'a>,
@@ -93,7 +92,7 @@ fn near_layer<'a>(
     }
 }
 
-/// What is kept of the layer of this name.
+// What is kept of the layer of this name.
 fn find_layer<'b, 'a>(kept: &'b [NearLayer<'a>], name: &str) -> Option<&'b NearLayer<'a>>
     ensures { option_copied result ≡ find (λ k. bytes_eq k.name.now name.now) kept.now }
 {

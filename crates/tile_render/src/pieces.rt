@@ -79,7 +79,6 @@ pub(crate) fn no_pieces(alloc: Global, cols: u32, rows: u32) -> Pieces
     }
 }
 
-// Puts pieces in order, row by row from the west.
 fn sort(pieces: &mut [Piece])
     ensures same { IsPermutation pieces.old pieces.new }
     ensures order { IsNonDecreasingBy place pieces.new }
@@ -94,7 +93,6 @@ fn touches(last: Piece, piece: Piece) -> bool
     row_of(piece) == row_of(last) && start_of(piece) <= last.end
 }
 
-// The pieces of a list in order, with those that touch joined.
 fn joined(alloc: Global, pieces: &[Piece]) -> Result<Vec<Piece>, NoMemory>
     requires { IsNonDecreasingBy place pieces.now }
     ensures same { IfOk result (λ v. (j i : ℕ) → covered v.items j i ≡ covered pieces.now j i) }
@@ -119,7 +117,6 @@ fn joined(alloc: Global, pieces: &[Piece]) -> Result<Vec<Piece>, NoMemory>
     Ok(kept)
 }
 
-// The pieces put in order, with those that touch joined.
 fn tidied(alloc: Global, pieces: &mut [Piece]) -> Result<Vec<Piece>, NoMemory>
     ensures same { IfOk result (λ v. (j i : ℕ) → covered v.items j i ≡ covered pieces.old j i) }
     ensures apart { IfOk result (λ v. Apart v.items) }
@@ -130,7 +127,6 @@ fn tidied(alloc: Global, pieces: &mut [Piece]) -> Result<Vec<Piece>, NoMemory>
 }
 
 impl Pieces {
-    // Joins the pieces that touch where there are too many.
     fn make_room(&mut self) -> Result<(), NoMemory>
         ensures same { OnOk result ((j i : ℕ) → covered self.new.list.items j i ≡ covered self.old.list.items j i) }
         ensures inside { OnOk result ((cols rows : ℕ) → All (IsPiece cols rows) self.old.list.items → All (IsPiece cols rows) self.new.list.items) }
@@ -147,7 +143,6 @@ impl Pieces {
         Ok(())
     }
 
-    // Adds a piece.
     fn add(&mut self, piece: Piece) -> Result<(), NoMemory>
         ensures same { OnOk result ((j i : ℕ) → covered self.new.list.items j i ≡ (covered self.old.list.items j i || has j i piece)) }
         ensures inside { OnOk result ((cols rows : ℕ) → All (IsPiece cols rows) self.old.list.items → IsPiece cols rows piece → All (IsPiece cols rows) self.new.list.items) }

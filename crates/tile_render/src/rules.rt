@@ -16,7 +16,6 @@ pub(crate) enum Choice {
     Fallback,
 }
 
-/// Whether the filter holds of the attributes; none always holds.
 fn filter_holds(filter: &Option<Expr>, attrs: &[Attr]) -> bool
     ensures { result ≡ filter_holds attrs.now (option_map tree_of filter.now) }
 {
@@ -26,7 +25,6 @@ fn filter_holds(filter: &Option<Expr>, attrs: &[Attr]) -> bool
     }
 }
 
-/// Whether the rule is a Filter rule whose filter holds of the attributes.
 fn takes(rule: &Rule, attrs: &[Attr]) -> bool
     ensures { result ≡ takes attrs.now rule.now }
 {

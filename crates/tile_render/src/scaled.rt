@@ -33,7 +33,6 @@ impl<'a> Model for ScaledStyle<'a> {
     ghost invariant = { λ s. map (λ r. r.now) s.rules.items ≡ filter (at_scale s.denominator) s.style.now.rules };
 }
 
-/// Whether the rule is active at the denominator.
 fn at_scale(rule: &Rule, denominator: u64) -> bool
     requires { 100 * denominator < 2 ^ 64 }
     ensures { result ≡ at_scale denominator rule.now }
@@ -45,7 +44,6 @@ fn at_scale(rule: &Rule, denominator: u64) -> bool
     )
 }
 
-/// Those of the rules that are active at the denominator, in order.
 fn active_rules<'a>(
     alloc: Global,
     rules: &'a [Rule],

@@ -20,7 +20,7 @@ use geo_model::Feature;
 use plain_drawing::{FilterMode, Rule, Style};
 use std::alloc::Global;
 
-/// Draws an item by a rule, whatever its filter and scales: each symbolizer in order.
+// Draws an item by a rule, whatever its filter and scales: each symbolizer in order.
 #[tactic(auto, unfolding(crate::specs::inner::Chosen::with_rule))]
 fn draw_rule(
     alloc: Global,
@@ -37,7 +37,6 @@ fn draw_rule(
     Ok(())
 }
 
-/// Draws an item by each chosen rule, in order.
 fn draw_rules(
     alloc: Global,
     item: Item<'_>,
@@ -59,8 +58,8 @@ fn draw_rules(
     Ok(())
 }
 
-/// Draws an item by a style: by the Filter rules that are taken, or where none matches by every ElseFilter
-/// rule.
+// Draws an item by a style: by the Filter rules that are taken, or where none matches by every ElseFilter
+// rule.
 fn draw_item(
     alloc: Global,
     scaled: &ScaledStyle<'_>,
@@ -86,8 +85,8 @@ fn draw_item(
     }
 }
 
-/// Draws the features of a layer of data by a style, in order. Those that are too far from the window to
-/// paint any of its pixels are passed over.
+// Draws the features of a layer of data by a style, in order. Those that are too far from the window to
+// paint any of its pixels are passed over.
 fn draw_features(
     alloc: Global,
     scaled: &ScaledStyle<'_>,
@@ -107,7 +106,6 @@ fn draw_features(
     Ok(())
 }
 
-/// Draws features by a style, in order.
 fn draw_listed(
     alloc: Global,
     scaled: &ScaledStyle<'_>,
@@ -124,7 +122,7 @@ fn draw_listed(
     Ok(())
 }
 
-/// Draws the features of a layer of data by a style, in order: those that are kept of it, where they are kept.
+// Draws the features of a layer of data by a style, in order: those that are kept of it, where they are kept.
 fn draw_source<'a>(
     alloc: Global,
     scaled: &ScaledStyle<'_>,

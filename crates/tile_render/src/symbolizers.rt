@@ -27,7 +27,7 @@ pub(crate) struct Paint {
     pub opacity: u32,
 }
 
-/// What the symbolizer paints. A RasterSymbolizer has no colour of its own, so it paints in no opacity.
+// What the symbolizer paints. A RasterSymbolizer has no colour of its own, so it paints in no opacity.
 fn paint_of(symbolizer: Symbolizer) -> Paint
     requires { IsTrue (is_paint symbolizer) }
     ensures opacity { result.opacity ≤ 1000 }
@@ -57,7 +57,7 @@ fn paint_of(symbolizer: Symbolizer) -> Paint
     }
 }
 
-/// Paints a grid in its own colours, by a RasterSymbolizer; the others cover nothing of it.
+// Paints a grid in its own colours, by a RasterSymbolizer; the others cover nothing of it.
 fn draw_on_grid(
     alloc: Global,
     grid: &Grid,
@@ -76,16 +76,16 @@ fn draw_on_grid(
     }
 }
 
-/// Whether the parts of what the symbolizer covers are painted one after another: in full opacity a pixel of
-/// two of them may be painted twice. Fills have runs that do not overlap, so they need no brush.
+// Whether the parts of what the symbolizer covers are painted one after another: in full opacity a pixel of
+// two of them may be painted twice. Fills have runs that do not overlap, so they need no brush.
 fn takes_brush(symbolizer: Symbolizer, opacity: u32) -> bool
     ensures { result ≡ (nat_eq opacity 1000 && not (is_fill symbolizer)) }
 {
     opacity == 1000 && !is_fill(symbolizer)
 }
 
-/// Paints what the symbolizer covers of the feature in a region that has all of it: with a brush, or once all
-/// that is covered is known.
+// Paints what the symbolizer covers of the feature in a region that has all of it: with a brush, or once all
+// that is covered is known.
 fn draw_region(
     alloc: Global,
     region: Region,
@@ -112,7 +112,6 @@ fn draw_region(
     }
 }
 
-/// Paints what the symbolizer covers of the feature.
 fn draw_on_feature(
     alloc: Global,
     feature: &Feature,

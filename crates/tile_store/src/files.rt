@@ -80,7 +80,6 @@ impl<'a, R: rt::Files<File = File>> FileStore<'a, R> {
         }
     }
 
-    /// Takes the folder at the first call; Failed while another program has it.
     fn take_folder(&mut self, alloc: Global) -> Result<(), StoreFault>
         ensures faults { self.new.faults ≡ self.old.faults }
         ensures begun { self.new.begun ≡ self.old.begun }
@@ -92,7 +91,7 @@ impl<'a, R: rt::Files<File = File>> FileStore<'a, R> {
         Ok(())
     }
 
-    /// The file of this name: the one whose beginning was read last, where a part behind that is to be read of it.
+    // The file of this name: the one whose beginning was read last, where a part behind that is to be read of it.
     fn opened(&mut self, name: String, offset: u64) -> Result<Option<Opened>, StoreFault>
         ensures faults { self.new.faults ≡ self.old.faults }
         ensures own { IfOk result (λ found. IfSome found (λ file. string_bytes file.name ≡ string_bytes name)) }
@@ -103,7 +102,7 @@ impl<'a, R: rt::Files<File = File>> FileStore<'a, R> {
         }
     }
 
-    /// The bytes of the path's file from the offset on, at most `len` of them.
+    // The bytes of the path's file from the offset on, at most `len` of them.
     fn read_part(
         &mut self,
         alloc: Global,
@@ -130,7 +129,6 @@ impl<'a, R: rt::Files<File = File>> FileStore<'a, R> {
         Ok(Some(bytes))
     }
 
-    /// The bytes of the path's file.
     fn read_whole(&mut self, alloc: Global, path: &str) -> Result<Option<Vec<u8>>, StoreFault>
         ensures short { IfOk result (λ found. IfSome found (λ v. length v.items ≤ most_file_bytes)) }
         ensures taken { is_own_path path.now ≡ false → result ≡ Err Failed }
@@ -144,7 +142,6 @@ impl<'a, R: rt::Files<File = File>> FileStore<'a, R> {
         Ok(Some(read_to_end(alloc, opened.file, MOST_FILE_BYTES)?))
     }
 
-    /// Forgets the file that was begun, which a put may replace, and takes the folder.
     fn begin_put(&mut self, alloc: Global) -> Result<(), StoreFault>
         ensures faults { self.new.faults ≡ self.old.faults }
         ensures forgets { self.new.begun ≡ None }
@@ -154,7 +151,6 @@ impl<'a, R: rt::Files<File = File>> FileStore<'a, R> {
         self.take_folder(alloc)
     }
 
-    /// Makes the path's file have the bytes, and forgets the file that was begun.
     fn write(&mut self, alloc: Global, path: &str, bytes: &[u8]) -> Result<(), StoreFault>
         ensures taken { is_own_path path.now ≡ false → result ≡ Err Failed }
         ensures faults { self.new.faults ≡ self.old.faults }
@@ -164,7 +160,7 @@ impl<'a, R: rt::Files<File = File>> FileStore<'a, R> {
         write_beside(alloc, &self.rt, path, bytes)
     }
 
-    /// Makes the staged file the path's, or else its bytes, and forgets the file that was begun.
+    // Makes the staged file the path's, or else its bytes, and forgets the file that was begun.
     fn take_staged(&mut self, alloc: Global, path: &str, staged: &Staged) -> Result<(), StoreFault>
         ensures taken { is_own_path path.now ≡ false → result ≡ Err Failed }
         ensures faults { self.new.faults ≡ self.old.faults }
@@ -174,7 +170,6 @@ impl<'a, R: rt::Files<File = File>> FileStore<'a, R> {
         put_written(alloc, &self.rt, path, staged)
     }
 
-    /// Counts the fault of a call that failed.
     fn counted<T: Drop>(&mut self, answer: Result<T, StoreFault>) -> Result<T, StoreFault>
         ensures same { result ≡ answer }
         ensures cause { Counts self.old.faults self.new.faults result }
@@ -196,7 +191,7 @@ pub struct FileStaging<'a, R> {
 }
 
 impl<'a, R> FileStaging<'a, R> {
-    /// What stages for the store in the files that this runtime reaches; takes no memory.
+    /// What stages for the store in the files that this runtime reaches.
     pub fn new(rt: R, folder: &'a Folder) -> FileStaging<'a, R>
         ensures { result.rt ≡ rt }
     {
@@ -284,7 +279,6 @@ impl<'a, R: rt::Files<File = File>> TileStore for FileStore<'a, R> {
     }
 }
 
-/// Whether the part of a path names a file or folder of its own.
 fn is_part(part: &str) -> bool
     ensures { result ≡ spec.is_part part.now }
 {
@@ -295,14 +289,12 @@ fn is_part(part: &str) -> bool
         && !part.as_bytes().ends_with(b".new")
 }
 
-/// Whether the path is one that the store takes.
 fn is_own_path(path: &str) -> bool
     ensures { result ≡ is_own_path path.now }
 {
     path.split('/').all(is_part)
 }
 
-/// The name of the path's file; Failed where the path is not taken.
 fn name_of(alloc: Global, path: &str) -> Result<String, StoreFault>
     ensures { is_own_path path.now ≡ false → result ≡ Err Failed }
 {
@@ -312,8 +304,8 @@ fn name_of(alloc: Global, path: &str) -> Result<String, StoreFault>
     Ok(format!(in alloc; "{FOLDER}/{path}")?)
 }
 
-/// Writes the bytes beside the path's file, in a folder that is made as needed, and renames that file.
-/// Where either fails it is removed, since a full disk would stay full of what no path leads to.
+// Writes the bytes beside the path's file, in a folder that is made as needed, and renames that file.
+// Where either fails it is removed, since a full disk would stay full of what no path leads to.
 fn write_beside<R: rt::Files>(
     alloc: Global,
     files: &R,
@@ -334,23 +326,20 @@ fn write_beside<R: rt::Files>(
     Ok(written?)
 }
 
-/// Makes the file of this name have the bytes, by way of the file beside it.
 fn replace<R: rt::Files>(files: &R, name: &str, beside: &str, bytes: &[u8]) -> io::Result<()> {
     fs::write(files, beside, bytes)?;
     fs::rename(files, beside, name)
 }
 
-/// The name of the file in which the bytes of the number are staged.
 fn staged_name(alloc: Global, number: u64) -> Result<String, StoreFault> {
     Ok(format!(in alloc; "{STAGED}/{number}")?)
 }
 
-/// The name of the file that the staged one of the number replaced.
 fn replaced_name(alloc: Global, number: u64) -> Result<String, StoreFault> {
     Ok(format!(in alloc; "{STAGED}/{number}.old")?)
 }
 
-/// Writes the bytes to a new file of the number, which is removed where that fails. A file that is there stays.
+// Writes the bytes to a new file of the number, which is removed where that fails. A file that is there stays.
 fn write_staged<R: rt::Files>(
     alloc: Global,
     files: &R,
@@ -371,7 +360,6 @@ fn write_staged<R: rt::Files>(
 /// begin that in the turn, which is soon done for fewer.
 const SYNCED: usize = 1 << 20;
 
-/// Writes the bytes to the file, and out to the disk where they are many.
 fn fill<F: Write + OpenFile + Drop>(file: F, bytes: &[u8]) -> io::Result<()> {
     let mut file = file;
     file.write_all(bytes)?;
@@ -381,8 +369,8 @@ fn fill<F: Write + OpenFile + Drop>(file: F, bytes: &[u8]) -> io::Result<()> {
     Ok(())
 }
 
-/// Makes the written file that of the name, and answers whether it did; where not, all is as before. What stands there is
-/// linked aside, where links are to be had, so that the rename has nothing to free.
+// Makes the written file that of the name, and answers whether it did; where not, all is as before. What stands there is
+// linked aside, where links are to be had, so that the rename has nothing to free.
 fn exchange<R: rt::Files>(files: &R, name: &str, written: &str, aside: &str) -> bool {
     if fs::hard_link(files, name, aside).is_err() {
         if let Some(folder) = Path::new(name).parent() {
@@ -392,7 +380,6 @@ fn exchange<R: rt::Files>(files: &R, name: &str, written: &str, aside: &str) -> 
     fs::rename(files, written, name).is_ok()
 }
 
-/// Makes the staged file the path's, or else writes its bytes as a put does.
 fn put_written<R: rt::Files>(
     alloc: Global,
     files: &R,
@@ -410,7 +397,6 @@ fn put_written<R: rt::Files>(
     write_beside(alloc, files, path, staged.bytes())
 }
 
-/// Removes the files of the number, where they are.
 fn clear_staged<R: rt::Files>(alloc: Global, files: &R, number: u64) -> Result<(), StoreFault> {
     let staged = staged_name(alloc, number)?;
     let replaced = replaced_name(alloc, number)?;
@@ -419,7 +405,7 @@ fn clear_staged<R: rt::Files>(alloc: Global, files: &R, number: u64) -> Result<(
     Ok(())
 }
 
-/// The file of the name; `None` where there is nothing, and Failed where there is a folder.
+// The file of the name; `None` where there is nothing, and Failed where there is a folder.
 fn open<R: rt::Files<File = File>>(files: &R, name: String) -> Result<Option<Opened>, StoreFault>
     ensures { IfOk result (λ found. IfSome found (λ file. string_bytes file.name ≡ string_bytes name)) }
 {
@@ -436,9 +422,9 @@ fn open<R: rt::Files<File = File>>(files: &R, name: String) -> Result<Option<Ope
     Ok(Some(Opened { name, file, length }))
 }
 
-/// The bytes of the file from the offset on, at most `len` of them; Failed where they are more than a tile's text can have.
-/// How many there are is known since it was
-/// opened, so that they are read at once, into a vector that does not grow.
+// The bytes of the file from the offset on, at most `len` of them; Failed where they are more than a tile's text can have.
+// How many there are is known since it was
+// opened, so that they are read at once, into a vector that does not grow.
 fn part_of(alloc: Global, opened: &mut Opened, offset: u64, len: u32) -> Result<Vec<u8>, StoreFault>
     ensures short { IfOk result (λ v. length v.items ≤ len) }
     ensures at_most { IfOk result (λ v. length v.items ≤ most_part_bytes) }

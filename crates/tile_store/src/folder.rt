@@ -25,7 +25,7 @@ pub struct Folder {
 }
 
 impl Folder {
-    /// The folder, which this program does not have yet; takes no memory.
+    /// The folder, which this program does not have yet.
     pub fn new() -> Folder {
         Folder {
             is_ours: AtomicBool::new(false),
@@ -56,7 +56,7 @@ impl Folder {
     }
 }
 
-/// The locked file; `None` where the system gives none, and Failed where another program has locked it.
+// The locked file; `None` where the system gives none, and Failed where another program has locked it.
 fn locked<R: rt::Files<File = File>>(files: &R) -> Result<Option<File>, StoreFault>
     ensures { IfErr result (λ fault. fault ≡ Failed) }
 {
@@ -70,7 +70,7 @@ fn locked<R: rt::Files<File = File>>(files: &R) -> Result<Option<File>, StoreFau
     }
 }
 
-/// The file that is to be locked, made as needed. One that may only be read is good enough.
+// The file that is to be locked, made as needed. One that may only be read is good enough.
 fn lock_file<R: rt::Files<File = File>>(files: &R) -> io::Result<File> {
     let _or_refused = fs::create_dir_all(files, FOLDER);
     let mut how = OpenOptions::new();
@@ -81,8 +81,8 @@ fn lock_file<R: rt::Files<File = File>>(files: &R) -> io::Result<File> {
     }
 }
 
-/// Removes the files in the folder of what is staged. The folder stays, with its group and its rights. Where it is a link,
-/// nothing is removed: what it leads to may be another's.
+// Removes the files in the folder of what is staged. The folder stays, with its group and its rights. Where it is a link,
+// nothing is removed: what it leads to may be another's.
 fn empty_staged<R: rt::Files>(alloc: Global, files: &R) -> io::Result<()> {
     if !fs::symlink_metadata(files, STAGED)?.is_dir() {
         return Ok(());

@@ -32,7 +32,6 @@ impl Model for MemStore {
     ghost view = { λ s. record { held = s.held.items; puts = s.puts.items; gets = s.gets.items; put_calls = s.put_calls; get_calls = s.get_calls; failed = s.failed.items } };
 }
 
-/// What the path holds: the first content of that path.
 fn content<'a>(held: &'a [(Text, Bytes)], path: &str) -> Option<&'a Bytes>
     ensures { option_map (λ b. b.now) result ≡ content_of held.entry.now path.now }
 {
@@ -41,7 +40,6 @@ fn content<'a>(held: &'a [(Text, Bytes)], path: &str) -> Option<&'a Bytes>
         .map(|pair| &pair.1)
 }
 
-/// The place of the path among the contents.
 fn place_of(held: &[(Text, Bytes)], path: &Text) -> Option<usize>
     ensures { result ≡ position (λ pair. bytes_eq pair.0 path.now) held.now }
 {
@@ -49,7 +47,7 @@ fn place_of(held: &[(Text, Bytes)], path: &Text) -> Option<usize>
     held.iter().position(|pair| pair.0.as_str() == path)
 }
 
-/// Puts the bytes at the path, in place of those that it held; takes no memory.
+// Puts the bytes at the path, in place of those that it held.
 fn hold(held: &mut Vec<(Text, Bytes)>, path: Text, bytes: Bytes)
     requires { vec_len held.old < vec_capacity held.old }
     ensures { held.new.items ≡ with_content held.old.items path bytes }
@@ -60,7 +58,6 @@ fn hold(held: &mut Vec<(Text, Bytes)>, path: Text, bytes: Bytes)
     }
 }
 
-/// Notes a call that failed; after want of memory all is as before.
 fn note(failed: &mut Vec<FailedCall>, alloc: Global, path: &str, put: bool) -> Result<(), NoMemory>
     ensures done { OnOk result (failed.new.items ≡ failed.old.items ++ record { name = path.now; put = put } ∷ []) }
     ensures refused { OnErr result (failed.new.items ≡ failed.old.items) }
@@ -78,7 +75,7 @@ fn is_to_fail(numbers: &[u64], n: u64) -> bool
     numbers.iter().any(|k| *k == n)
 }
 
-/// The bytes from an offset on, at most `len` of them and no further than their end.
+// The bytes from an offset on, at most `len` of them and no further than their end.
 fn part_of(bytes: &[u8], offset: u64, len: u32) -> &[u8]
     ensures { result.now ≡ part offset len bytes.now }
 {
@@ -114,28 +111,25 @@ impl MemStore {
         })
     }
 
-    /// The calls that failed so far, in order; takes no memory.
+    /// The calls that failed so far, in order.
     pub fn failed(&self) -> &[FailedCall]
         ensures { result.now ≡ self.now.failed }
     {
         self.failed.as_slice()
     }
 
-    /// Whether the next put is to fail.
     fn put_is_to_fail(&self) -> bool
         ensures { result ≡ put_fails self.now }
     {
         is_to_fail(self.puts.as_slice(), self.put_calls)
     }
 
-    /// Whether the next get is to fail.
     fn get_is_to_fail(&self) -> bool
         ensures { result ≡ get_fails self.now }
     {
         is_to_fail(self.gets.as_slice(), self.get_calls)
     }
 
-    /// Makes the path hold the bytes; after want of memory all is as before.
     fn keep(&mut self, alloc: Global, path: &str, bytes: &[u8]) -> Result<(), NoMemory>
         ensures done { OnOk result (self.new ≡ record self.old { held = with_content self.old.held path.now bytes.now; put_calls = next_count self.old.put_calls }) }
         ensures refused { OnErr result (self.new ≡ self.old) }
@@ -148,7 +142,7 @@ impl MemStore {
         Ok(())
     }
 
-    /// A put that fails: the path holds half of the bytes. After want of memory all is as before.
+    // A put that fails: the path holds half of the bytes. After want of memory all is as before.
     fn keep_half(&mut self, alloc: Global, path: &str, bytes: &[u8]) -> Result<(), NoMemory>
         ensures done { OnOk result (self.new ≡ record self.old { held = with_content self.old.held path.now (half bytes.now); put_calls = next_count self.old.put_calls; failed = self.old.failed ++ failed_put path.now ∷ [] }) }
         ensures refused { OnErr result (self.new ≡ self.old) }
@@ -162,7 +156,6 @@ impl MemStore {
         Ok(())
     }
 
-    /// A get that fails; after want of memory all is as before.
     fn refuse(&mut self, alloc: Global, path: &str) -> Result<(), NoMemory>
         ensures done { OnOk result (self.new ≡ record self.old { get_calls = next_count self.old.get_calls; failed = self.old.failed ++ failed_get path.now ∷ [] }) }
         ensures refused { OnErr result (self.new ≡ self.old) }

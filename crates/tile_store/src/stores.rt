@@ -107,7 +107,7 @@ pub trait TileStore {
         ensures state { Gets (part offset len) (state self.old) (state self.new) path.now result }
         ensures short { IfOk result (λ found. IfSome found (λ v. length v.items ≤ len)) };
 
-    /// The count of faults; changes nothing and takes no memory.
+    /// The count of faults; changes nothing.
     fn faults(&self) -> u64
         ensures { result ≡ (state self.now).faults };
 

@@ -61,7 +61,6 @@ struct Blank {
     times: u32,
 }
 
-// The text of a tile of one colour.
 fn blank_of(alloc: Global, side: u32, c: Colour) -> Result<Blank, NoMemory>
     requires { IsTileSize side }
     ensures head { IfOk result (λ b. string_bytes b.head ≡ ppm side side []) }
@@ -76,7 +75,6 @@ fn blank_of(alloc: Global, side: u32, c: Colour) -> Result<Blank, NoMemory>
     })
 }
 
-// Appends the text of a tile of one colour.
 fn put_blank(blank: &Blank, out: &mut Vec<u8>) -> Result<(), NoMemory>
     ensures { OnOk result (out.new.items ≡ out.old.items ++ text_of blank.now) }
 {
@@ -87,7 +85,6 @@ fn put_blank(blank: &Blank, out: &mut Vec<u8>) -> Result<(), NoMemory>
     Ok(())
 }
 
-// So many zeros, and then a text so many times.
 fn copies(alloc: Global, before: usize, count: u32, text: &Blank) -> Result<Vec<u8>, NoMemory>
     requires before { before ≤ 2 ^ 16 }
     requires count { count ≤ 64 }
@@ -103,7 +100,6 @@ fn copies(alloc: Global, before: usize, count: u32, text: &Blank) -> Result<Vec<
     Ok(out)
 }
 
-// Puts these bytes in the place of the first.
 fn put_front(bytes: &mut Vec<u8>, front: &[u8])
     requires { length front.now ≤ length bytes.old.items }
     ensures { bytes.new.items ≡ front.now ++ drop (length front.now) bytes.old.items }
@@ -111,7 +107,6 @@ fn put_front(bytes: &mut Vec<u8>, front: &[u8])
     bytes[0..front.len()].copy_from_slice(front);
 }
 
-// Where the pixels of a tile begin.
 fn pixels_at(before: usize, head: usize, pixels: usize, tile: usize) -> usize
     requires fits { before + (tile + 1) * (head + pixels * 3) < 2 ^ 64 }
     ensures { result ≡ before + tile * (head + pixels * 3) + head }
@@ -119,7 +114,6 @@ fn pixels_at(before: usize, head: usize, pixels: usize, tile: usize) -> usize
     before + tile * (head + pixels * 3) + head
 }
 
-// Paints `count` pixels, which are all of these bytes.
 fn paint(run: &mut [u8], count: usize, c: Colour, opacity: u32, line: &mut ReadyLine)
     requires opacity { opacity ≤ 1000 }
     requires len { length run.old ≡ count * 3 }

@@ -37,7 +37,6 @@ impl Model for TiledImage {
     ghost invariant = { λ m. IsTiled m.grid.shift m.grid.across m.texts };
 }
 
-// How often two is multiplied to make the size of a tile.
 fn shift_of(size: u32) -> u32
     requires { IsTileSize size }
     ensures value { size ≡ 2 ^ result }
@@ -54,7 +53,6 @@ fn shift_of(size: u32) -> u32
 }
 
 impl Grid {
-    // Which tile has the pixel in column `i` and row `j`.
     fn tile_at(self, i: u32, j: u32) -> usize
         requires few { self.across ≤ 8 }
         requires small { self.shift ≤ 9 }
@@ -63,7 +61,6 @@ impl Grid {
         (i >> self.shift) as usize * self.across as usize + (j >> self.shift) as usize
     }
 
-    // The place in its tile of the pixel in column `i` and row `j`.
     fn place_at(self, i: u32, j: u32) -> usize
         requires { self.shift ≤ 9 }
         ensures { result ≡ j % 2 ^ self.shift * 2 ^ self.shift + i % 2 ^ self.shift }
@@ -73,7 +70,6 @@ impl Grid {
         ((row << self.shift) + col) as usize
     }
 
-    // The column behind the tile that has the column `i`.
     fn tile_end(self, i: u32) -> u32
         requires small { self.shift ≤ 9 }
         requires col { i < 2 ^ 16 }
@@ -218,7 +214,6 @@ impl TiledImage {
         }
     }
 
-    // Appends the bytes of the pixels of a part, row by row.
     fn put_rows(
         &self,
         col: u32,

@@ -90,7 +90,7 @@ impl<T: StandsFor> Core<T> {
         }
     }
 
-    /// Draws the next ticket, or leaves the mark where the limit was drawn.
+    // Draws the next ticket, or leaves the mark where the limit was drawn.
     fn draw<R: Wait>(&self, rt: &R, place: &mut Place<T, T::Entry>) -> Result<u64, Worn>
         requires place { (place.old.table_id ≡ self.now.table.shared.table_id)
             × (place.old.me.0.about ≡ Some self.now.table.shared.key) }
@@ -118,7 +118,6 @@ impl<T: StandsFor> Core<T> {
         unreachable!()
     }
 
-    /// Waits until the ticket is served, and takes the value out.
     fn enter<R: Wait>(&self, rt: &R, place: &mut Place<T, T::Entry>, ticket: u64) -> T
         requires place { (place.old.table_id ≡ self.now.table.shared.table_id)
             × (place.old.me.0.about ≡ Some self.now.table.shared.key) }
@@ -145,7 +144,7 @@ impl<T: StandsFor> Core<T> {
         unreachable!()
     }
 
-    /// Sleeps while the ticket that was last served is still served.
+    // Sleeps while the ticket that was last served is still served.
     fn sleep<R: Wait>(&self, rt: &R, served: u64) {
         self.sleepers.fetch_add(1, Ordering::SeqCst);
         self.table
@@ -154,7 +153,6 @@ impl<T: StandsFor> Core<T> {
         self.sleepers.fetch_sub(1, Ordering::SeqCst);
     }
 
-    /// Counts the entry of the call and its answer.
     fn count<W: Said<T::Entry>, C: Call<T>>(
         &self,
         place: &mut Place<T, T::Entry>,
@@ -173,7 +171,6 @@ impl<T: StandsFor> Core<T> {
         self.table.shared.fetch_add::<Count<W>>(place, COUNT, 1);
     }
 
-    /// Puts the value home and serves the next ticket.
     fn leave(&self, place: &mut Place<T, T::Entry>, value: T)
         requires place { (place.old.table_id ≡ self.now.table.shared.table_id)
             × (place.old.me.0.about ≡ Some self.now.table.shared.key) }

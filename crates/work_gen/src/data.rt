@@ -20,7 +20,6 @@ const SPREAD: u32 = 520_192;
 /// How large a feature may be.
 const MOST_SIDE: u32 = 4096;
 
-/// A path of these points.
 fn path(alloc: Global, points: &[Point]) -> Result<Path, NoMemory>
     ensures { IfOk result (λ p. p ≡ points.now) }
 {
@@ -29,7 +28,6 @@ fn path(alloc: Global, points: &[Point]) -> Result<Path, NoMemory>
     })
 }
 
-/// One line or ring of these points.
 fn single(alloc: Global, points: &[Point]) -> Result<Listed<Path>, NoMemory>
     ensures { IfOk result (λ l. l ≡ points.now ∷ []) }
 {
@@ -38,7 +36,7 @@ fn single(alloc: Global, points: &[Point]) -> Result<Listed<Path>, NoMemory>
     Ok(Listed::of(paths))
 }
 
-/// The shape of a feature of a layer: a square of the land, a road from corner to corner, or a spot.
+// The shape of a feature of a layer: a square of the land, a road from corner to corner, or a spot.
 #[tactic(auto, using(crate::proofs::Shapes::square_sound, crate::proofs::Shapes::diagonal_sound, crate::proofs::Shapes::point_sound))]
 fn shape(alloc: Global, layer: u32, x: u32, y: u32, side: u32) -> Result<Geometry, NoMemory>
     requires x { x < 2 ^ 29 + 520192 }
@@ -60,7 +58,6 @@ fn shape(alloc: Global, layer: u32, x: u32, y: u32, side: u32) -> Result<Geometr
     }
 }
 
-/// The attributes of a feature.
 fn attrs(alloc: Global, kind: u32) -> Result<Vec<Attr>, NoMemory>
     ensures { IfOk result (λ v. v.items ≡ spec.kind_attr kind ∷ []) }
 {
@@ -72,7 +69,6 @@ fn attrs(alloc: Global, kind: u32) -> Result<Vec<Attr>, NoMemory>
     Ok(attrs)
 }
 
-/// The feature of this number, which takes four draws.
 #[tactic(auto, unfolding(crate::specs::Work::feature_at))]
 fn feature(alloc: Global, draws: &mut Draws, number: u32) -> Result<Feature, NoMemory>
     requires few { number < 100000 }
@@ -135,7 +131,6 @@ fn add_layer(
     Ok(())
 }
 
-/// The three layers of so many features.
 fn three_layers(alloc: Global, seed: u64, count: u32) -> Result<Vec<Layer>, NoMemory>
     requires { count ≤ 100000 }
     ensures { IfOk result (λ v. v.items ≡ spec.dataset_of seed count) }

@@ -33,7 +33,6 @@ impl Default for Step {
 /// How many steps there are.
 const STEPS: u32 = 32;
 
-/// `2^n`.
 #[tactic(auto, using(crate::proofs::Turns::power_some, crate::proofs::Turns::power_small))]
 fn power(n: u32) -> u32
     requires { n ≤ 13 }
@@ -44,8 +43,8 @@ fn power(n: u32) -> u32
     1 << n
 }
 
-/// A column or row of a zoom from 11 to 14: the draw lies behind the world's middle, in its first
-/// `2^19` units.
+// A column or row of a zoom from 11 to 14: the draw lies behind the world's middle, in its first
+// `2^19` units.
 fn behind_middle(draws: &mut Draws, z: u32) -> u32
     requires low { 11 ≤ z }
     requires high { z < 15 }
@@ -58,7 +57,6 @@ fn behind_middle(draws: &mut Draws, z: u32) -> u32
     middle + draws.next(spread)
 }
 
-/// The step of this number, which takes three draws.
 #[tactic(auto, unfolding(crate::specs::Work::step_at))]
 fn next_step(draws: &mut Draws, features: u32, number: u32) -> Step
     requires features { features ≤ 100000 }
@@ -82,8 +80,7 @@ fn next_step(draws: &mut Draws, features: u32, number: u32) -> Step
 }
 
 /// The steps of the work with so many features, from 1 to 100,000: their draws are those of the seed
-/// behind the draws of the data, three for each step. Every fourth step expires its tile first. It takes
-/// no memory.
+/// behind the draws of the data, three for each step. Every fourth step expires its tile first.
 #[tactic(auto, using(crate::proofs::Turns::no_steps, crate::proofs::Turns::step_next))]
 pub fn steps(seed: u64, features: u32) -> ArrayVec<Step, 32>
     requires { features ≤ 100000 }

@@ -25,8 +25,8 @@ fn colour(number: u8) -> Colour
     }
 }
 
-/// What a rule paints: land is filled, roads are two pixels wide with round ends, spots six pixels wide
-/// and high.
+// What a rule paints: land is filled, roads are two pixels wide with round ends, spots six pixels wide
+// and high.
 fn paint(number: u8) -> Symbolizer
     requires { number < 12 }
     ensures { result ≡ spec.paint_of number }
@@ -52,7 +52,6 @@ fn paint(number: u8) -> Symbolizer
     }
 }
 
-/// The filter `[kind] = kind`.
 fn filter(alloc: Global, kind: u8) -> Result<Expr, NoMemory>
     ensures { IfOk result (λ e. tree_of e ≡ compare_tree (name_tree (codes "kind")) sign.Equal (number_tree (pos kind))) }
 {
@@ -85,7 +84,6 @@ fn add_rule(alloc: Global, rules: &mut Vec<Rule>, number: u8) -> Result<(), NoMe
     Ok(())
 }
 
-/// A style of four rules, the first of this number.
 #[tactic(auto, unfolding(crate::specs::Work::work_style))]
 fn style(alloc: Global, name: &str, first: u8) -> Result<Style, NoMemory>
     requires first { first ≤ 8 }
@@ -104,7 +102,6 @@ fn style(alloc: Global, name: &str, first: u8) -> Result<Style, NoMemory>
     })
 }
 
-/// A layer that the style of its name draws at all scales.
 #[tactic(auto, unfolding(crate::specs::Work::work_layer))]
 fn layer(alloc: Global, name: &str) -> Result<LayerRef, NoMemory>
     requires { IsTrue (is_text_to 64 name.now) }
@@ -138,7 +135,6 @@ fn add_layer(alloc: Global, layers: &mut Vec<LayerRef>, name: &str) -> Result<()
     Ok(())
 }
 
-/// The styles of the three layers.
 fn styles(alloc: Global) -> Result<Vec<Style>, NoMemory>
     ensures { IfOk result (λ v. v.items ≡ spec.work_style (codes "land") 0 ∷ spec.work_style (codes "roads") 4 ∷ spec.work_style (codes "spots") 8 ∷ []) }
 {
@@ -149,7 +145,6 @@ fn styles(alloc: Global) -> Result<Vec<Style>, NoMemory>
     Ok(styles)
 }
 
-/// The three layers.
 fn layers(alloc: Global) -> Result<Vec<LayerRef>, NoMemory>
     ensures { IfOk result (λ v. v.items ≡ spec.work_layer (codes "land") ∷ spec.work_layer (codes "roads") ∷ spec.work_layer (codes "spots") ∷ []) }
 {
