@@ -76,7 +76,9 @@ fn split_all(
 ) -> Option<Vec<Seat<Counter>>>
     requires seat { IsSeatOf cell.now first.old }
     requires first { first.old.first ≡ true }
-    ensures first { IfSome result (λ seats. IsSeatOf cell.now first.new × (first.new.first ≡ true) × (first.new.splits ≡ first.old.splits + vec_len seats) × (first.new.joined ≡ first.old.joined)) }
+    ensures first { IfSome result (λ seats. IsSeatOf cell.now first.new
+        × (first.new.first ≡ true) × (first.new.splits ≡ first.old.splits + vec_len seats)
+        × (first.new.joined ≡ first.old.joined)) }
     ensures seats { IfSome result (λ seats. All (IsSeatOf cell.now) seats.items) }
 {
     let mut seats = Vec::new(alloc);
@@ -125,7 +127,8 @@ fn join_all(cell: &TurnCell<Counter>, first: &mut Seat<Counter>, mut seats: Vec<
     requires first { first.old.first ≡ true }
     requires seats { All (IsSeatOf cell.now) seats.items }
     ensures seat { IsSeatOf cell.now first.new × (first.new.first ≡ true) }
-    ensures joined { (first.new.splits ≡ first.old.splits) × (length first.new.joined ≡ length first.old.joined + vec_len seats) }
+    ensures joined { (first.new.splits ≡ first.old.splits)
+        × (length first.new.joined ≡ length first.old.joined + vec_len seats) }
 {
     while let Some(seat) = seats.pop() {
         cell.join(first, seat);

@@ -17,9 +17,11 @@ use plain_world::Window;
 pub fn set_run(j: u32, from: u32, end: u32, mask: &mut Mask)
     requires row { j < mask.old.rows }
     requires end { end ≤ mask.old.cols }
-    ensures reached { (member : Point → Bool) (w : Window) (start : Bits) → w.cols ≡ mask.old.cols → w.rows ≡ mask.old.rows
+    ensures reached { (member : Point → Bool) (w : Window) (start : Bits) → w.cols ≡ mask.old.cols
+        → w.rows ≡ mask.old.rows
         → ((i : ℕ) → from ≤ i → i < end → member (centre w i j) ≡ true)
-        → Reached member w (j * w.cols + from) start mask.old → Reached member w (j * w.cols + max from end) start mask.new }
+        → Reached member w (j * w.cols + from) start mask.old
+        → Reached member w (j * w.cols + max from end) start mask.new }
     ensures cols { mask.new.cols ≡ mask.old.cols }
     ensures rows { mask.new.rows ≡ mask.old.rows }
 {
@@ -32,7 +34,8 @@ fn mark_row<S: Shape, K: Surface>(shape: &S, w: Window, j: u32, mask: &mut K)
     requires row { j < w.rows }
     requires cols { K.cols mask.old ≡ w.cols }
     requires rows { K.rows mask.old ≡ w.rows }
-    ensures reached { Becomes K.shows (λ old new. (start : Bits) → Reached (S.holds shape.now) w (j * w.cols) start old
+    ensures reached { Becomes K.shows
+        (λ old new. (start : Bits) → Reached (S.holds shape.now) w (j * w.cols) start old
         → Reached (S.holds shape.now) w (j * w.cols + w.cols) start new) mask.old mask.new }
     ensures cols { K.cols mask.new ≡ K.cols mask.old }
     ensures rows { K.rows mask.new ≡ K.rows mask.old }
@@ -63,7 +66,8 @@ pub fn mark<S: Shape, K: Surface>(shape: &S, w: Window, mask: &mut K)
 /// lie neither to the west nor to the east of the window.
 pub fn mark_within<S: Shape, K: Surface>(shape: &S, down: Stretch, w: Window, mask: &mut K)
     requires valid { S.valid shape.now }
-    requires heights { (c : Point) → InWorld c → w.west ≤ c.x → c.x ≤ w.west + w.cols * w.pixel → S.holds shape.now c ≡ true → InStretch down c.y }
+    requires heights { (c : Point) → InWorld c → w.west ≤ c.x → c.x ≤ w.west + w.cols * w.pixel
+        → S.holds shape.now c ≡ true → InStretch down c.y }
     requires window { IsWindow w }
     requires cols { K.cols mask.old ≡ w.cols }
     requires rows { K.rows mask.old ≡ w.rows }

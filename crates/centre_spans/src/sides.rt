@@ -19,7 +19,8 @@ fn quotient(n: u64, divisor: u32) -> u64
 pub fn first_at(start: u32, pixel: u32, count: u32, v: u64) -> u32
     requires { 1 ≤ pixel }
     ensures within { result ≤ count }
-    ensures splits { (i : ℕ) → i < count → nat_le result i ≡ nat_le v (start + i * pixel + pixel / 2) }
+    ensures splits { (i : ℕ) → i < count
+        → nat_le result i ≡ nat_le v (start + i * pixel + pixel / 2) }
 {
     let middle = u64::from(start) + u64::from(pixel / 2);
     if v <= middle {

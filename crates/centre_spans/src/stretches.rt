@@ -46,7 +46,8 @@ pub struct Growing {
 /// `inverse` is that of how far the two slopes are apart.
 pub fn no_more(p: Growing, q: Growing, inverse: u64) -> Stretch
     requires { q.rest ≤ 2 ^ 63 + 2 ^ 62 }
-    ensures { (v : ℕ) → v ≤ 2 ^ 30 → in_stretch result v ≡ nat_le (v * p.slope + p.rest) (v * q.slope + q.rest) }
+    ensures { (v : ℕ) → v ≤ 2 ^ 30
+        → in_stretch result v ≡ nat_le (v * p.slope + p.rest) (v * q.slope + q.rest) }
 {
     if p.slope < q.slope {
         let rise = u64::from(q.slope - p.slope);

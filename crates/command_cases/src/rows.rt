@@ -33,7 +33,8 @@ pub(crate) fn row(
     frame: &Frame<'_>,
     line: &str,
 ) -> Result<Option<String>, AllocError>
-    ensures { IfOk result (λ row. IfSome row (λ text. Stands (string_bytes text) frame.now.before.now frame.now.after.now)) }
+    ensures { IfOk result (λ row. IfSome row
+        (λ text. Stands (string_bytes text) frame.now.before.now frame.now.after.now)) }
 {
     if let Some((_, text)) = line.split_once(" <- ") {
         return Ok(Some(framed(alloc, frame, text)?));
@@ -48,7 +49,8 @@ pub(crate) fn row(
 }
 
 fn framed(alloc: Global, frame: &Frame<'_>, text: &str) -> Result<String, AllocError>
-    ensures { IfOk result (λ whole. string_bytes whole ≡ frame.now.before.now ++ text.now ++ frame.now.after.now) }
+    ensures { IfOk result
+        (λ whole. string_bytes whole ≡ frame.now.before.now ++ text.now ++ frame.now.after.now) }
 {
     format!(in alloc; "{}{text}{}", frame.before, frame.after)
 }

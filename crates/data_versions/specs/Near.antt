@@ -15,7 +15,8 @@ is_near around f = meets (bounds_of (parts_of f.geometry)) around
 
 -- the least place from `from` on of a feature near the rectangle
 abbrev pub next_near : List Feature → ℕ → Bounds → Option ℕ
-next_near features from around = option_map (λ k. from + k) (position (is_near around) (drop from features))
+next_near features from around =
+    option_map (λ k. from + k) (position (is_near around) (drop from features))
 
 -- the features near the rectangle, in order
 abbrev pub all_near : List Feature → Bounds → List Feature

@@ -38,5 +38,6 @@ pub(crate) trait Block: Drop {
     /// Adds the ids, each with its place.
     fn number(&self, pairs: &mut Vec<(u64, u32)>) -> Result<(), NoMemory>
         requires { length pairs.old.items + length (features self.now) ≤ 4294967295 }
-        ensures { OnOk result (pairs.new.items ≡ pairs.old.items ++ numbered (length pairs.old.items) (features self.now)) };
+        ensures { OnOk result (pairs.new.items
+            ≡ pairs.old.items ++ numbered (length pairs.old.items) (features self.now)) };
 }

@@ -148,7 +148,8 @@ impl<B: Block> Blocks<B> {
     /// Adds the ids, each with its place.
     pub(crate) fn number(&self, pairs: &mut Vec<(u64, u32)>) -> Result<(), NoMemory>
         requires { length pairs.old.items + length self.now ≤ 4294967295 }
-        ensures { OnOk result (pairs.new.items ≡ pairs.old.items ++ numbered (length pairs.old.items) self.now) }
+        ensures { OnOk result
+            (pairs.new.items ≡ pairs.old.items ++ numbered (length pairs.old.items) self.now) }
     {
         for block in self.blocks() {
             block.number(pairs)?;

@@ -34,7 +34,8 @@ impl Model for Grid {
 
     ghost view = { λ g. g.bounds };
 
-    ghost invariant = { λ g. (g.across ≡ scale_of g.bounds.west g.bounds.east) × (g.down ≡ scale_of g.bounds.north g.bounds.south) };
+    ghost invariant = { λ g. (g.across ≡ scale_of g.bounds.west g.bounds.east)
+        × (g.down ≡ scale_of g.bounds.north g.bounds.south) };
 }
 
 /// Cells that lie together: in each row from `top` to `bottom` those of the columns whose bits are set.
@@ -135,8 +136,10 @@ pub(crate) fn add_block(rows: &mut [u64; CELL_ROWS], block: CellBlock)
     requires rows { length rows.old ≡ 64 }
     requires few { block.bottom < 64 }
     ensures rows { length rows.new ≡ 64 }
-    ensures kept { (k i : ℕ) → bit_at (slice_index_or rows.old k 0) i ≡ 1 → bit_at (slice_index_or rows.new k 0) i ≡ 1 }
-    ensures added { (k i : ℕ) → block.top ≤ k → k ≤ block.bottom → bit_at block.columns i ≡ 1 → bit_at (slice_index_or rows.new k 0) i ≡ 1 }
+    ensures kept { (k i : ℕ) → bit_at (slice_index_or rows.old k 0) i ≡ 1
+        → bit_at (slice_index_or rows.new k 0) i ≡ 1 }
+    ensures added { (k i : ℕ) → block.top ≤ k → k ≤ block.bottom → bit_at block.columns i ≡ 1
+        → bit_at (slice_index_or rows.new k 0) i ≡ 1 }
 {
     for row in block.top..block.bottom + 1 {
         add_columns(rows, row, block.columns);
@@ -147,7 +150,8 @@ pub(crate) fn add_block(rows: &mut [u64; CELL_ROWS], block: CellBlock)
 pub(crate) fn has_one(rows: &[u64; CELL_ROWS], block: CellBlock) -> bool
     requires rows { length rows.now ≡ 64 }
     requires few { block.bottom < 64 }
-    ensures { result ≡ false → (k : ℕ) → block.top ≤ k → k ≤ block.bottom → bit_and (slice_index_or rows.now k 0) block.columns ≡ 0 }
+    ensures { result ≡ false → (k : ℕ) → block.top ≤ k → k ≤ block.bottom
+        → bit_and (slice_index_or rows.now k 0) block.columns ≡ 0 }
 {
     for row in block.top..block.bottom + 1 {
         if rows[row as usize] & block.columns != 0 {

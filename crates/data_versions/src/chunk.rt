@@ -41,7 +41,9 @@ impl Model for Chunk {
 
     ghost view = { λ c. c.features.value.items };
 
-    ghost invariant = { λ c. (length c.features.value.items ≤ 64) × All (IsIn c.extent) c.features.value.items × (c.grid ≡ c.extent.bounds) × IsPlaced c.grid c.cells c.features.value.items };
+    ghost invariant = { λ c. (length c.features.value.items ≤ 64)
+        × All (IsIn c.extent) c.features.value.items × (c.grid ≡ c.extent.bounds)
+        × IsPlaced c.grid c.cells c.features.value.items };
 }
 
 fn extent_over(features: &[SharedFeature]) -> Extent

@@ -39,7 +39,8 @@ impl<'a> Model for LayerEdit<'a> {
 
     ghost view = { λ b. standing b.slots };
 
-    ghost invariant = { λ b. KnowsPlaces b.places b.finder.features b.slots × (b.count ≡ length (standing b.slots)) × (b.count ≤ most_features) };
+    ghost invariant = { λ b. KnowsPlaces b.places b.finder.features b.slots
+        × (b.count ≡ length (standing b.slots)) × (b.count ≤ most_features) };
 }
 
 impl<'a> LayerEdit<'a> {
@@ -113,7 +114,8 @@ impl<'a> LayerEdit<'a> {
     // Puts a feature in place of the one of its id, if there is one.
     fn replace(&mut self, feature: &'a Feature) -> Result<bool, NoMemory>
         ensures found { IfOk result (λ found. found ≡ has_id (ids_of self.old) feature.now.id) }
-        ensures done { IfOk result (λ found. found ≡ true → self.new ≡ replaced_by feature.now self.old) }
+        ensures done { IfOk result
+            (λ found. found ≡ true → self.new ≡ replaced_by feature.now self.old) }
         ensures absent { IfOk result (λ found. found ≡ false → self.new ≡ self.old) }
     {
         match slot_of(&self.places, &self.finder, &self.slots, feature.id()) {
@@ -128,8 +130,10 @@ impl<'a> LayerEdit<'a> {
     #[tactic(auto, using(crate::proofs::Standing::put_known, crate::proofs::Standing::put_new))]
     /// Puts a feature, in place of the one of its id or last. False where it is new and the layer is full.
     pub(crate) fn put(&mut self, feature: &'a Feature) -> Result<bool, NoMemory>
-        ensures done { IfOk result (λ fits. fits ≡ true → self.new ≡ with_put feature.now self.old) }
-        ensures full { IfOk result (λ fits. fits ≡ false → (has_id (ids_of self.old) feature.now.id ≡ false) × (most_features ≤ length self.old)) }
+        ensures done { IfOk result
+            (λ fits. fits ≡ true → self.new ≡ with_put feature.now self.old) }
+        ensures full { IfOk result (λ fits. fits ≡ false → (has_id (ids_of self.old) feature.now.id
+            ≡ false) × (most_features ≤ length self.old)) }
     {
         if self.replace(feature)? {
             return Ok(true);

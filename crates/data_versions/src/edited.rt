@@ -24,7 +24,8 @@ pub(crate) fn no_memory(_refused: NoMemory) -> ApplyFault
 fn remove_all(edit: &mut LayerEdit<'_>, place: u32, ids: &[u64]) -> Result<(), ApplyFault>
     ensures found { OnOk result (first_missing (ids_of edit.old) ids.now ≡ None) }
     ensures gone { OnOk result (edit.new ≡ without_ids ids.now edit.old) }
-    ensures missing { IfErr result (λ e. e ≢ ApplyFault.NoMemory → option_map (λ id. ApplyFault.NoFeature place id) (first_missing (ids_of edit.old) ids.now) ≡ Some e) }
+    ensures missing { IfErr result (λ e. e ≢ ApplyFault.NoMemory → option_map
+        (λ id. ApplyFault.NoFeature place id) (first_missing (ids_of edit.old) ids.now) ≡ Some e) }
 {
     for id in ids {
         if !edit.remove(*id).map_err(no_memory)? {
@@ -39,7 +40,8 @@ fn put_all<'a>(edit: &mut LayerEdit<'a>, place: u32, puts: &'a [Feature]) -> Res
     ensures done { OnOk result (edit.new ≡ with_puts puts.now edit.old) }
     ensures fits { OnOk result (is_too_many (with_puts puts.now edit.old) ≡ false) }
     ensures cause { IfErr result (λ e. e ≢ ApplyFault.NoMemory → e ≡ ApplyFault.TooMany place) }
-    ensures full { IfErr result (λ e. e ≢ ApplyFault.NoMemory → is_too_many (with_puts puts.now edit.old) ≡ true) }
+    ensures full { IfErr result
+        (λ e. e ≢ ApplyFault.NoMemory → is_too_many (with_puts puts.now edit.old) ≡ true) }
 {
     for feature in puts {
         if !edit.put(feature).map_err(no_memory)? {
@@ -59,7 +61,8 @@ fn make_change<'a>(
 ) -> Result<(), ApplyFault>
     ensures done { OnOk result (edit.new ≡ with_change change.now edit.old) }
     ensures right { OnOk result (features_fault place change.now edit.old ≡ None) }
-    ensures refused { IfErr result (λ e. e ≢ ApplyFault.NoMemory → features_fault place change.now edit.old ≡ Some e) }
+    ensures refused { IfErr result
+        (λ e. e ≢ ApplyFault.NoMemory → features_fault place change.now edit.old ≡ Some e) }
 {
     let ids = change.remove.len().saturating_add(change.put.len());
     edit.expect(alloc, ids).map_err(no_memory)?;
@@ -86,7 +89,8 @@ fn share_edited(
     layer: &ChunkedLayer,
     edit: &LayerEdit<'_>,
 ) -> Result<Arc<ChunkedLayer>, NoMemory>
-    ensures { IfOk result (λ shared. arc_value shared ≡ record { name = layer.now.name; features = edit.now }) }
+    ensures { IfOk result
+        (λ shared. arc_value shared ≡ record { name = layer.now.name; features = edit.now }) }
 {
     let segments = edit.segments(alloc)?;
     let name = Text::of(alloc, layer.name())?;
@@ -109,7 +113,10 @@ impl<'a> Model for EditedLayer<'a> {
 
     ghost Value = { Layer };
 
-    ghost view = { λ d. record { name = d.shared.now.value.name; features = unwrap_or d.edit d.shared.now.value.features } };
+    ghost view = { λ d. record {
+      name = d.shared.now.value.name;
+      features = unwrap_or d.edit d.shared.now.value.features;
+    } };
 
     ghost invariant = { λ d. IsLayer d.shared.now.value };
 }
@@ -141,7 +148,8 @@ impl<'a> EditedLayer<'a> {
     ) -> Result<(), ApplyFault>
         ensures done { OnOk result (self.new ≡ changed_layer change.now self.old) }
         ensures right { OnOk result (features_fault place change.now self.old.features ≡ None) }
-        ensures refused { IfErr result (λ e. e ≢ ApplyFault.NoMemory → features_fault place change.now self.old.features ≡ Some e) }
+        ensures refused { IfErr result (λ e. e ≢ ApplyFault.NoMemory
+            → features_fault place change.now self.old.features ≡ Some e) }
     {
         let layer: &'a ChunkedLayer = self.shared;
         let mut edit = begun_edit(alloc, layer, self.edit.take());

@@ -72,7 +72,8 @@ impl<'a> Edits<'a> {
     }
 
     fn take(&mut self, number: u32) -> Option<Option<&'a Feature>>
-        ensures { MatchOption result ((self.new ≡ self.old) × (edits_at number self.old ≡ false)) (λ edit. self.old ≡ (number, option_copied edit) ∷ self.new) }
+        ensures { MatchOption result ((self.new ≡ self.old) × (edits_at number self.old ≡ false))
+            (λ edit. self.old ≡ (number, option_copied edit) ∷ self.new) }
     {
         match self.all.get(self.next).copied() {
             Some((n, edit)) if n == number => {
@@ -85,7 +86,8 @@ impl<'a> Edits<'a> {
 }
 
 fn add_edit(alloc: Global, edit: Option<&Feature>, builder: &mut Builder) -> Result<(), NoMemory>
-    ensures { OnOk result (built builder.new ≡ built builder.old ++ option_to_list (option_copied edit.entry)) }
+    ensures { OnOk result
+        (built builder.new ≡ built builder.old ++ option_to_list (option_copied edit.entry)) }
 {
     match edit {
         Some(feature) => {
@@ -111,7 +113,9 @@ trait Editable: Block {
         builder: &mut Builder,
     ) -> Result<(), NoMemory>
         requires { first + length (Self.features self.now) ≤ 4294967295 }
-        ensures { OnOk result ((more : List Feature) → built builder.old ++ edited first edits.old (Self.features self.now ++ more) ≡ built builder.new ++ edited (first + length (Self.features self.now)) edits.new more) };
+        ensures { OnOk result ((more : List Feature) → built builder.old
+            ++ edited first edits.old (Self.features self.now ++ more) ≡ built builder.new
+            ++ edited (first + length (Self.features self.now)) edits.new more) };
 }
 
 // Puts the features of the block, of which the first has the number, at the end as they are after the edits. The
@@ -125,7 +129,9 @@ fn edit_block<B: Editable>(
     builder: &mut Builder,
 ) -> Result<(), NoMemory>
     requires { first + length (B.features block.now) ≤ 4294967295 }
-    ensures { OnOk result ((more : List Feature) → built builder.old ++ edited first edits.old (B.features block.now ++ more) ≡ built builder.new ++ edited (first + length (B.features block.now)) edits.new more) }
+    ensures { OnOk result ((more : List Feature)
+        → built builder.old ++ edited first edits.old (B.features block.now ++ more)
+        ≡ built builder.new ++ edited (first + length (B.features block.now)) edits.new more) }
 {
     if edits.begin_past(first + block.len()) {
         return block.share_into(alloc, builder);
@@ -142,7 +148,9 @@ fn edit_blocks<B: Editable>(
     builder: &mut Builder,
 ) -> Result<(), NoMemory>
     requires { first + length blocks.now ≤ 4294967295 }
-    ensures { OnOk result ((more : List Feature) → built builder.old ++ edited first edits.old (blocks.now ++ more) ≡ built builder.new ++ edited (first + length blocks.now) edits.new more) }
+    ensures { OnOk result
+        ((more : List Feature) → built builder.old ++ edited first edits.old (blocks.now ++ more)
+        ≡ built builder.new ++ edited (first + length blocks.now) edits.new more) }
 {
     let mut start = first;
     for block in blocks.blocks() {
@@ -160,7 +168,8 @@ fn edit_feature(
     edits: &mut Edits<'_>,
     builder: &mut Builder,
 ) -> Result<(), NoMemory>
-    ensures { OnOk result ((more : List Feature) → built builder.old ++ edited number edits.old (feature.now ∷ more) ≡ built builder.new ++ edited (number + 1) edits.new more) }
+    ensures { OnOk result ((more : List Feature) → built builder.old ++ edited number edits.old
+        (feature.now ∷ more) ≡ built builder.new ++ edited (number + 1) edits.new more) }
 {
     match edits.take(number) {
         Some(edit) => add_edit(alloc, edit, builder),

@@ -65,7 +65,8 @@ impl<'a> Model for LayerFinder<'a> {
 
     ghost view = { λ f. f.layer.now };
 
-    ghost invariant = { λ f. IsLayer f.layer.now × IfSome f.table (λ t. IsIdTable t.items f.layer.now.features) };
+    ghost invariant = { λ f. IsLayer f.layer.now
+        × IfSome f.table (λ t. IsIdTable t.items f.layer.now.features) };
 }
 
 fn sort_ids(pairs: &mut Vec<(u64, u32)>)
@@ -86,7 +87,8 @@ fn id_table(alloc: Global, layer: &ChunkedLayer) -> Result<Vec<(u64, u32)>, NoMe
 }
 
 fn place_in(table: &[(u64, u32)], id: u64) -> Option<u32>
-    ensures { (features : List Feature) → IsIdTable table.now features → result ≡ place_of features id }
+    ensures { (features : List Feature) → IsIdTable table.now features
+        → result ≡ place_of features id }
 {
     match table.binary_search_by_key(&id, |pair| pair.0) {
         Ok(at) => Some(table[at].1),

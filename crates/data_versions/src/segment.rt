@@ -31,7 +31,8 @@ impl Model for Segment {
 
     ghost view = { λ s. s.chunks.value };
 
-    ghost invariant = { λ s. All (IsIn s.extent) s.chunks.value × (s.count ≡ length s.chunks.value) };
+    ghost invariant = { λ s. All (IsIn s.extent) s.chunks.value
+        × (s.count ≡ length s.chunks.value) };
 }
 
 fn extent_over(chunks: &[Chunk]) -> Extent

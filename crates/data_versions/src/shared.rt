@@ -26,7 +26,8 @@ impl Model for SharedFeature {
 
     ghost view = { λ s. s.feature.value };
 
-    ghost invariant = { λ s. (s.id ≡ s.feature.value.id) × (s.bounds ≡ box_of s.feature.value) × IsWide s.bounds };
+    ghost invariant = { λ s. (s.id ≡ s.feature.value.id) × (s.bounds ≡ box_of s.feature.value)
+        × IsWide s.bounds };
 }
 
 fn wide_box(feature: &Feature) -> Bounds

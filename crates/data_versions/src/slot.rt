@@ -10,7 +10,8 @@ use std::collections::BTreeMap;
 // The slot of the layer's feature of the id, if the id still stands there.
 fn first_slot(finder: &LayerFinder<'_>, slots: &Slots<'_>, id: u64) -> Option<u32>
     ensures found { IfSome result (λ k. slot_id (get_or slots.now k None) ≡ Some id) }
-    ensures none { result ≡ None → (k : ℕ) → place_of finder.now.features id ≡ Some k → slot_id (get_or slots.now k None) ≡ Some id → ⊥ }
+    ensures none { result ≡ None → (k : ℕ) → place_of finder.now.features id ≡ Some k
+        → slot_id (get_or slots.now k None) ≡ Some id → ⊥ }
 {
     let place = finder.place_of(id)?;
     match slots.id_at(place) {

@@ -196,7 +196,8 @@ impl<'a> LayerView<'a> {
     pub fn next_near(&self, from: u32, west: u32, north: u32, east: u32, south: u32) -> Option<u32>
         requires across { west ≤ east }
         requires down { north ≤ south }
-        ensures { result ≡ next_near self.now from (record { west = west; north = north; east = east; south = south }) }
+        ensures { result ≡ next_near self.now from
+            (record { west = west; north = north; east = east; south = south }) }
     {
         let around = Bounds {
             west,
@@ -213,7 +214,8 @@ impl<'a> LayerView<'a> {
     pub fn near(&self, west: u32, north: u32, east: u32, south: u32) -> NearFeatures<'a>
         requires across { west ≤ east }
         requires down { north ≤ south }
-        ensures { result ≡ all_near self.now (record { west = west; north = north; east = east; south = south }) }
+        ensures { result ≡ all_near self.now
+            (record { west = west; north = north; east = east; south = south }) }
     {
         let around = Bounds {
             west,

@@ -44,7 +44,8 @@ fn change_one<'a>(
 ) -> Result<(), ApplyFault>
     ensures done { OnOk result (edited_layers.new ≡ layers_after change.now edited_layers.old) }
     ensures right { OnOk result (change_fault place change.now edited_layers.old ≡ None) }
-    ensures refused { IfErr result (λ e. e ≢ ApplyFault.NoMemory → change_fault place change.now edited_layers.old ≡ Some e) }
+    ensures refused { IfErr result
+        (λ e. e ≢ ApplyFault.NoMemory → change_fault place change.now edited_layers.old ≡ Some e) }
 {
     match place_named(edited_layers, change.layer.as_str()) {
         Some(at) => {
@@ -62,9 +63,11 @@ fn change_all<'a>(
     changes: &'a [Change],
 ) -> Result<(), ApplyFault>
     requires { length changes.now ≤ most_features }
-    ensures done { OnOk result (update_result changes.now edited_layers.old ≡ Ok edited_layers.new) }
+    ensures done { OnOk result
+        (update_result changes.now edited_layers.old ≡ Ok edited_layers.new) }
     ensures names { OnOk result (names_of edited_layers.new ≡ names_of edited_layers.old) }
-    ensures refused { IfErr result (λ e. e ≢ ApplyFault.NoMemory → update_result changes.now edited_layers.old ≡ Err e) }
+    ensures refused { IfErr result
+        (λ e. e ≢ ApplyFault.NoMemory → update_result changes.now edited_layers.old ≡ Err e) }
 {
     for (place, change) in changes.iter().enumerate() {
         change_one(alloc, edited_layers, place as u32, change)?;
@@ -94,7 +97,8 @@ fn finish(
 #[tactic(auto, using(crate::proofs::Named::dataset_kept))]
 pub fn apply(alloc: Global, old: &Snapshot, update: &Update) -> Result<Snapshot, ApplyFault>
     ensures done { IfOk result (λ next. update_result update.now old.now ≡ Ok next) }
-    ensures refused { IfErr result (λ e. e ≢ ApplyFault.NoMemory → update_result update.now old.now ≡ Err e) }
+    ensures refused { IfErr result
+        (λ e. e ≢ ApplyFault.NoMemory → update_result update.now old.now ≡ Err e) }
 {
     let mut edited_layers = edited_layers(alloc, old.shared()).map_err(no_memory)?;
     change_all(alloc, edited_layers.as_mut_slice(), update.changes())?;

@@ -46,7 +46,8 @@ impl<'a> NearFeatures<'a> {
 
     /// The next feature, or none exactly where none is left.
     pub fn next(&mut self) -> Option<&'a Feature>
-        ensures { MatchOption result ((self.old ≡ []) × (self.new ≡ [])) (λ f. self.old ≡ f.now ∷ self.new) }
+        ensures { MatchOption result ((self.old ≡ []) × (self.new ≡ []))
+            (λ f. self.old ≡ f.now ∷ self.new) }
     {
         let count = self.segments.len();
         let mut here = self.here;

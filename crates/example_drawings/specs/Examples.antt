@@ -1,4 +1,5 @@
--- Drawings that were worked out by hand: small maps, and what they show at zoom 0 in tiles of 16 by 16 pixels, or which symbolizers they draw.
+-- Drawings that were worked out by hand: small maps, and what they show at zoom 0 in tiles of 16 by
+-- 16 pixels, or which symbolizers they draw.
 use Rattle.std.specs.Prelude.{ℕ, ◌*◌, ◌/◌, ◌^◌, Bool, true, false, List, [], ◌∷◌, ◌++◌, map, flat_map, replicate, count_by, codes, pos, Option, Some, None}
 use Rattle.farm_base.specs.declared.Attr.{Attr}
 use Rattle.farm_base.specs.declared.Value.TheVariants as value
@@ -89,7 +90,8 @@ fill_count rings = cover_count (shape.Polygon rings) (paint.Polygon red 1000)
 
 -- how many centres a stroke along a line covers, its width in hundredths of a pixel
 abbrev pub stroke_count : List Point → ℕ → LineCap → ℕ
-stroke_count points width cap = cover_count (shape.Lines (points ∷ [])) (paint.Line red width 1000 cap)
+stroke_count points width cap =
+    cover_count (shape.Lines (points ∷ [])) (paint.Line red width 1000 cap)
 
 -- how many centres a stroke along these rings covers, its width in hundredths of a pixel
 abbrev pub outline_count : List (List Point) → ℕ → LineCap → ℕ
@@ -97,7 +99,8 @@ outline_count rings width cap = cover_count (shape.Polygon rings) (paint.Line re
 
 -- how many centres marks on these points cover, their width and height in hundredths of a pixel
 abbrev pub mark_count : List Point → ℕ → ℕ → ℕ
-mark_count points width height = cover_count (shape.Points points) (paint.Markers red width height 1000)
+mark_count points width height =
+    cover_count (shape.Points points) (paint.Markers red width height 1000)
 
 -- a line of 4 pixels along the centres of row 8
 abbrev pub level : List Point
@@ -175,7 +178,8 @@ fill c = paint.Polygon c 1000
 
 -- a style of three rules: red where k is 1, blue where it is at least 1, and lime elsewhere
 abbrev pub three_rules : FilterMode → Style
-three_rules mode = style mode (rule (compare_one sign.Equal) false (fill red) ∷ rule (compare_one sign.GreaterEqual) false (fill blue) ∷ rule None true (fill lime) ∷ [])
+three_rules mode = style mode (rule (compare_one sign.Equal) false (fill red)
+    ∷ rule (compare_one sign.GreaterEqual) false (fill blue) ∷ rule None true (fill lime) ∷ [])
 
 -- the symbolizers that draw a feature with this k
 abbrev pub symbolizers_met : FilterMode → ℕ → List Symbolizer
@@ -197,7 +201,13 @@ halves = record {
 
 -- the raster of a style to which the grid of two halves belongs
 abbrev pub halves_ref : RasterRef
-halves_ref = record { name = codes "sky"; file = codes "sky.ppm"; west = 0; north = 0; pixel = 2 ^ 29 }
+halves_ref = record {
+  name = codes "sky";
+  file = codes "sky.ppm";
+  west = 0;
+  north = 0;
+  pixel = 2 ^ 29;
+}
 
 -- a map of the grid of two halves alone, drawn with this opacity
 abbrev pub sky : ℕ → MapStyle

@@ -51,9 +51,13 @@ pub fn example_grid()
 /// The whole tile of one red square, of a map whose source is absent, and of two polygons, half opaque, that
 /// share an edge through the centres of column 8: each pixel is painted once.
 pub fn example_polygons()
-    ensures square { drawn_world (map_of (codes "land") (fill red) [] []) (land (square 4 12 ∷ [])) ≡ picture (rows 4 (replicate 16 white) ++ rows 8 (replicate 4 white ++ replicate 8 red ++ replicate 4 white) ++ rows 4 (replicate 16 white)) }
-    ensures absent { drawn_world (map_of (codes "sea") (fill red) [] []) (land (square 4 12 ∷ [])) ≡ picture (rows 16 (replicate 16 white)) }
-    ensures shared_edge { drawn_world (map_of (codes "land") (paint.Polygon red 500) [] []) (land (box 0 0 17 32 ∷ box 17 0 32 32 ∷ [])) ≡ picture (rows 16 (replicate 16 pale_red)) }
+    ensures square { drawn_world (map_of (codes "land") (fill red) [] []) (land (square 4 12 ∷ []))
+        ≡ picture (rows 4 (replicate 16 white) ++ rows 8 (replicate 4 white ++ replicate 8 red
+        ++ replicate 4 white) ++ rows 4 (replicate 16 white)) }
+    ensures absent { drawn_world (map_of (codes "sea") (fill red) [] []) (land (square 4 12 ∷ []))
+        ≡ picture (rows 16 (replicate 16 white)) }
+    ensures shared_edge { drawn_world (map_of (codes "land") (paint.Polygon red 500) [] [])
+        (land (box 0 0 17 32 ∷ box 17 0 32 32 ∷ [])) ≡ picture (rows 16 (replicate 16 pale_red)) }
 {}
 
 /// Half of each width that is used here, in world units, and how many pixels are covered by fills, strokes with
@@ -71,8 +75,10 @@ pub fn example_covers()
     ensures ring_in_ring { fill_count (square 2 14 ∷ square 6 10 ∷ []) ≡ 128 }
     ensures ring_twice { fill_count (square 2 14 ∷ square 2 14 ∷ []) ≡ 0 }
     ensures corners_at_centres { fill_count (box 9 9 25 25 ∷ []) ≡ 64 }
-    ensures first_corner { covers (2 ^ 26) (shape.Polygon (box 9 9 25 25 ∷ [])) (at 9 9) (fill red) ≡ true }
-    ensures last_corner { covers (2 ^ 26) (shape.Polygon (box 9 9 25 25 ∷ [])) (at 25 25) (fill red) ≡ false }
+    ensures first_corner { covers (2 ^ 26) (shape.Polygon (box 9 9 25 25 ∷ [])) (at 9 9)
+        (fill red) ≡ true }
+    ensures last_corner { covers (2 ^ 26) (shape.Polygon (box 9 9 25 25 ∷ [])) (at 25 25)
+        (fill red) ≡ false }
     ensures butt { stroke_count level 300 Butt ≡ 12 }
     ensures square { stroke_count level 300 Square ≡ 24 }
     ensures round { stroke_count level 300 Round ≡ 20 }
@@ -85,5 +91,6 @@ pub fn example_covers()
     ensures dot_square { stroke_count dot 250 Square ≡ 9 }
     ensures outline { outline_count (square 4 12 ∷ []) 100 Butt ≡ 60 }
     ensures mark { mark_count (at 17 17 ∷ []) 400 200 ≡ 7 }
-    ensures flat_mark { covers 8 (shape.Points (at 17 17 ∷ [])) (at 17 17) (paint.Markers red 24 400 1000) ≡ false }
+    ensures flat_mark { covers 8 (shape.Points (at 17 17 ∷ [])) (at 17 17)
+        (paint.Markers red 24 400 1000) ≡ false }
 {}

@@ -19,7 +19,8 @@ SinkAt = Outside (List ℕ)
 -- ---- out and err
 
 -- the bytes are put, or the sink failed
-pub record PutsAll (old new : SinkAt) (bytes : List ℕ) (result : Result (Unit {0}) Stop) : Type 0 where
+pub record PutsAll (old new : SinkAt) (bytes : List ℕ)
+    (result : Result (Unit {0}) Stop) : Type 0 where
   pub put : Result (Unit {0}) SinkFault
   pub puts : Puts old new bytes put
   pub ends : result ≡ result_map_both (λ done. tt) (λ fault. stop.SinkFailed) put
@@ -29,8 +30,8 @@ abbrev pub PutsMade : SinkAt → SinkAt → Result (Vec ℕ Global) Stop → Res
 PutsMade old new (Ok v) result = PutsAll old new v.items result
 PutsMade old new (Err s) result = (result ≡ Err s) × (new ≡ old)
 
--- How an end is told: its line is put on err; an empty one is not: the sink is as it was. The status
--- is 4 where the line could not be put.
+-- How an end is told: its line is put on err; an empty one is not: the sink is as it was. The
+-- status is 4 where the line could not be put.
 pub record Reports (told : ℕ × List ℕ) (old new : SinkAt) (result : ℕ) : Type 0 where
   pub put : Result (Unit {0}) SinkFault
   pub puts : Puts old new told.1 put
@@ -38,7 +39,8 @@ pub record Reports (told : ℕ × List ℕ) (old new : SinkAt) (result : ℕ) : 
   pub quiet : told.1 ≡ [] → (put ≡ Ok tt) × (new ≡ old)
 
 -- a whole call: a command that runs so, and then the report of how it ended
-pub record EndsWith (runs : Result (Unit {0}) Stop → Type 0) (err err' : SinkAt) (result : ℕ) : Type 0 where
+pub record EndsWith (runs : Result (Unit {0}) Stop → Type 0) (err err' : SinkAt)
+    (result : ℕ) : Type 0 where
   pub end : Result (Unit {0}) Stop
   pub ran : runs end
   pub reports : Reports (told_of end) err err' result

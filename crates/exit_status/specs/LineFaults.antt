@@ -1,4 +1,5 @@
--- The texts of the faults of scripts and expiry lists, with the number of the line; want of memory has none.
+-- The texts of the faults of scripts and expiry lists, with the number of the line; want of memory
+-- has none.
 use Rattle.std.specs.Prelude.{ℕ, List, ◌++◌, Option, Some, None, codes}
 use Rattle.std.specs.Fmt.{decimal}
 use Rattle.expiry_lists.specs.declared.faults.ListFault.{ListFault}

@@ -3,7 +3,8 @@ use Rattle.std.specs.Prelude.{ℕ, List, [], ◌++◌, Result, Ok, Err, codes}
 use Rattle.exit_status.specs.declared.stops.Stop.{Stop}
 use Rattle.exit_status.specs.declared.stops.Stop.TheVariants.{Refused, Words, Unreadable, SinkFailed, NoMemory, StoreFailed, PortsFailed, TurnsUsedUp}
 
--- How an end is told: the exit status, and the line on err, which is empty at the end of the command and where a put failed.
+-- How an end is told: the exit status, and the line on err, which is empty at the end of the
+-- command and where a put failed.
 abbrev pub told_of : Result (Unit {0}) Stop → ℕ × List ℕ
 told_of (Ok done) = (0, [])
 told_of (Err (Refused line)) = (1, line)

@@ -20,13 +20,17 @@ part_text part.Raster = codes "raster"
 
 -- an object by its kind and its three places
 abbrev pub at_text : At → List ℕ
-at_text at = codes " at " ++ part_text at.part ++ codes " " ++ decimal at.first ++ codes " " ++ decimal at.second ++ codes " " ++ decimal at.third
+at_text at = codes " at " ++ part_text at.part ++ codes " " ++ decimal at.first ++ codes " "
+    ++ decimal at.second ++ codes " " ++ decimal at.third
 
 -- a filter's fault by its number and its offset, with the object of the filter
 abbrev pub filter_text_at : At → FilterFault → Option (List ℕ)
-filter_text_at at (filter.Bad offset) = Some (codes "style 3" ++ at_text at ++ codes " filter 1 " ++ decimal offset)
-filter_text_at at (filter.NumberRange offset) = Some (codes "style 3" ++ at_text at ++ codes " filter 2 " ++ decimal offset)
-filter_text_at at (filter.TooDeep offset) = Some (codes "style 3" ++ at_text at ++ codes " filter 3 " ++ decimal offset)
+filter_text_at at (filter.Bad offset) =
+    Some (codes "style 3" ++ at_text at ++ codes " filter 1 " ++ decimal offset)
+filter_text_at at (filter.NumberRange offset) =
+    Some (codes "style 3" ++ at_text at ++ codes " filter 2 " ++ decimal offset)
+filter_text_at at (filter.TooDeep offset) =
+    Some (codes "style 3" ++ at_text at ++ codes " filter 3 " ++ decimal offset)
 filter_text_at at filter.NoMemory = None
 
 -- the text of a style's fault: its number, and the object that it stands in

@@ -24,30 +24,37 @@ use Rattle.exit_status.specs.StyleFaults.{style_text}
 
 -- of a style
 abbrev pub StylesAreTold : Type 0
-StylesAreTold = (bytes : List ℕ) (e : StyleFault) → style_in bytes ≡ Err e → IsTrue (is_some (style_text e))
+StylesAreTold = (bytes : List ℕ) (e : StyleFault) → style_in bytes ≡ Err e
+    → IsTrue (is_some (style_text e))
 
 -- of data
 abbrev pub DataAreTold : Type 0
-DataAreTold = (bytes : List ℕ) (e : DataFault) → dataset_in bytes ≡ Err e → IsTrue (is_some (data_text e))
+DataAreTold = (bytes : List ℕ) (e : DataFault) → dataset_in bytes ≡ Err e
+    → IsTrue (is_some (data_text e))
 
 -- of the PPM text of a raster file, and of the grid that it makes
 abbrev pub PpmTextsAreTold : Type 0
-PpmTextsAreTold = (bytes : List ℕ) (e : PpmFault) → ppm_of bytes ≡ Err e → IsTrue (is_some (ppm_text e))
+PpmTextsAreTold = (bytes : List ℕ) (e : PpmFault) → ppm_of bytes ≡ Err e
+    → IsTrue (is_some (ppm_text e))
 
 abbrev pub GridsAreTold : Type 0
 GridsAreTold = (e : GridFault) → IsTrue (is_some (grid_text e))
 
 -- of a configuration
 abbrev pub ConfigsAreTold : Type 0
-ConfigsAreTold = (bytes : List ℕ) (e : ConfigFault) → config_in bytes ≡ Err e → IsTrue (is_some (config_text e))
+ConfigsAreTold = (bytes : List ℕ) (e : ConfigFault) → config_in bytes ≡ Err e
+    → IsTrue (is_some (config_text e))
 
 -- of a script, and of an expiry list
 abbrev pub ScriptsAreTold : Type 0
-ScriptsAreTold = (bytes : List ℕ) (e : ScriptFault) → script_in bytes ≡ Err e → IsTrue (is_some (script_text e))
+ScriptsAreTold = (bytes : List ℕ) (e : ScriptFault) → script_in bytes ≡ Err e
+    → IsTrue (is_some (script_text e))
 
 abbrev pub ListsAreTold : Type 0
-ListsAreTold = (bytes : List ℕ) (e : ListFault) → list_in bytes ≡ Err e → IsTrue (is_some (list_text e))
+ListsAreTold = (bytes : List ℕ) (e : ListFault) → list_in bytes ≡ Err e
+    → IsTrue (is_some (list_text e))
 
 -- of a saved farm
 abbrev pub SavedAreTold : Type 0
-SavedAreTold = (bytes : List ℕ) (e : SavedFault) → saved_in bytes ≡ Err e → IsTrue (is_some (saved_text e))
+SavedAreTold = (bytes : List ℕ) (e : SavedFault) → saved_in bytes ≡ Err e
+    → IsTrue (is_some (saved_text e))

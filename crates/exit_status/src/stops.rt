@@ -51,7 +51,8 @@ impl From<AllocError> for Stop {
 
 /// The refusal of a file for a fault with this text.
 pub fn refused(alloc: Global, name: &str, text: &str) -> Stop
-    ensures { (result ≡ stop.NoMemory) ⊎ (result ≡ stop.Refused (spec.refused_line name.now text.now)) }
+    ensures { (result ≡ stop.NoMemory)
+        ⊎ (result ≡ stop.Refused (spec.refused_line name.now text.now)) }
 {
     match format!(in alloc; "tilefarm: {name}: {text}\n") {
         Ok(line) => Stop::Refused(Text::from_string(line)),
@@ -61,7 +62,8 @@ pub fn refused(alloc: Global, name: &str, text: &str) -> Stop
 
 /// That a file cannot be read.
 pub fn unreadable(alloc: Global, name: &str) -> Stop
-    ensures { (result ≡ stop.NoMemory) ⊎ (result ≡ stop.Unreadable (spec.unreadable_line name.now)) }
+    ensures { (result ≡ stop.NoMemory)
+        ⊎ (result ≡ stop.Unreadable (spec.unreadable_line name.now)) }
 {
     match format!(in alloc; "tilefarm: {name}: cannot be read\n") {
         Ok(line) => Stop::Unreadable(Text::from_string(line)),

@@ -16,10 +16,13 @@ pub record InWide (b : Bounds) (margin : ℕ) (p : Point) : Type 0 where
 abbrev pub Holds : Square → Bounds → ℕ → Type 0
 Holds s b margin = (p : Point) × InWide b margin p × InSquare s p
 
--- the stretch from the least to the greatest number, widened by the margin on both sides, holds a number of the stretch of so many units that stands at that place
+-- the stretch from the least to the greatest number, widened by the margin on both sides, holds a
+-- number of the stretch of so many units that stands at that place
 abbrev pub is_near : ℕ → ℕ → ℕ → ℕ → ℕ → Bool
-is_near least greatest place units margin = nat_lt least ((place + 1) * units + margin) && nat_le (place * units) (greatest + margin)
+is_near least greatest place units margin =
+    nat_lt least ((place + 1) * units + margin) && nat_le (place * units) (greatest + margin)
 
 -- the same as a test on the edges of both, where the box's do not cross
 abbrev pub comes_near : Bounds → ℕ → Square → Bool
-comes_near b margin s = is_near b.west b.east s.x (side_at s.z) margin && is_near b.north b.south s.y (side_at s.z) margin
+comes_near b margin s = is_near b.west b.east s.x (side_at s.z) margin
+    && is_near b.north b.south s.y (side_at s.z) margin

@@ -1,5 +1,5 @@
--- What an expiry list says, line by line: its tiles, or the first line that is none. Each reader is given the
--- fault of its line.
+-- What an expiry list says, line by line: its tiles, or the first line that is none. Each reader is
+-- given the fault of its line.
 use Rattle.std.specs.Prelude.{ℕ, ◌^◌, List, [], ◌∷◌, Option, Some, None, Result, Ok}
 use Rattle.std.specs.Option.{ok_or}
 use Rattle.std.specs.Str.Lines.{lines}
@@ -33,7 +33,8 @@ list_tile fault text = do
 -- what a line says, nothing where it is empty
 unfoldable pub list_line : ListFault → List ℕ → Result (Option Tile) ListFault
 list_line fault [] = Ok None
-list_line fault (b ∷ bs) = line_text fault (b ∷ bs) >>= λ text. list_tile fault text >>= λ t. Ok (Some t)
+list_line fault (b ∷ bs) =
+    line_text fault (b ∷ bs) >>= λ text. list_tile fault text >>= λ t. Ok (Some t)
 
 -- what the bytes of an expiry list say; lines are counted from 1, the empty ones too
 unfoldable pub list_in : List ℕ → Result (List Tile) ListFault

@@ -15,7 +15,8 @@ pub record Shown : Type 0 where
   pub key : Key
   pub mark : Mark
 
--- the value of Marks: what is shown, in no order that counts, and how many keys more may be shown without memory
+-- the value of Marks: what is shown, in no order that counts, and how many keys more may be shown
+-- without memory
 pub record MarksSeen : Type 0 where
   pub shown : List Shown
   pub room : ℕ
@@ -36,7 +37,8 @@ touched_by touched m = record { version = m.version; clean = not touched && m.cl
 abbrev pub dirtied_mark : (Key → Bool) → Shown → Shown
 dirtied_mark test s = record { key = s.key; mark = touched_by (test s.key) s.mark }
 
--- what is shown, after an expiry of the keys that pass the test: each of them is dirty, and all else is as it was
+-- what is shown, after an expiry of the keys that pass the test: each of them is dirty, and all
+-- else is as it was
 abbrev pub dirtied_marks : (Key → Bool) → List Shown → List Shown
 dirtied_marks test shown = map (dirtied_mark test) shown
 
@@ -48,7 +50,8 @@ clean_marks test shown = count_by (λ s. s.mark.clean && test s.key) shown
 abbrev pub is_of_map : ℕ → Key → Bool
 is_of_map map k = map == k.map
 
--- whether the box, widened by 64 pixels of tiles of that size at the key's zoom, holds a point of the key's square
+-- whether the box, widened by 64 pixels of tiles of that size at the key's zoom, holds a point of
+-- the key's square
 abbrev pub is_met : Bounds → ℕ → Key → Bool
 is_met b size k = comes_near b (margin_of size k.meta.z) (meta_square k.meta)
 

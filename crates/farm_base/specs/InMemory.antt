@@ -16,7 +16,8 @@ next_count n = min (n + 1) (2 ^ 64 - 1)
 abbrev pub is_to_fail : List ℕ → ℕ → Bool
 is_to_fail numbers n = list_any (λ k. k == n) numbers
 
--- named contents, the reads that are to fail by their numbers, how many reads were answered, and those that failed
+-- named contents, the reads that are to fail by their numbers, how many reads were answered, and
+-- those that failed
 pub record FilesHeld : Type 0 where
   pub files : List (List ℕ × List ℕ)
   pub reads : List ℕ
@@ -41,16 +42,20 @@ read_of held name = if is_to_fail held.reads held.calls then None else content_o
 
 -- A read of files in memory that has these bytes, or none, exactly: Ok where it has bytes, Failed
 -- where it has none, and after NoMemory all is as before.
-abbrev pub GivesHeld : FilesHeld → FilesHeld → List ℕ → Option (List ℕ) → Result (Vec ℕ Global) FileFault → Type 0
-GivesHeld old new name has (Ok bytes) = (has ≡ Some bytes.items) × (new ≡ record old { calls = next_count old.calls })
-GivesHeld old new name has (Err Failed) = (has ≡ None) × (new ≡ record old { calls = next_count old.calls; failed = old.failed ++ failed_read name ∷ [] })
+abbrev pub GivesHeld : FilesHeld → FilesHeld → List ℕ → Option (List ℕ)
+    → Result (Vec ℕ Global) FileFault → Type 0
+GivesHeld old new name has (Ok bytes) =
+    (has ≡ Some bytes.items) × (new ≡ record old { calls = next_count old.calls })
+GivesHeld old new name has (Err Failed) = (has ≡ None) × (new
+    ≡ record old { calls = next_count old.calls; failed = old.failed ++ failed_read name ∷ [] })
 GivesHeld old new name has (Err NoMemory) = new ≡ old
 
 -- A read of a name.
 abbrev pub ReadsHeld : FilesHeld → FilesHeld → List ℕ → Result (Vec ℕ Global) FileFault → Type 0
 ReadsHeld old new name result = GivesHeld old new name (read_of old name) result
 
--- the bytes that were put, the room for them, the puts that are to fail by their numbers, how many puts came and how many failed
+-- the bytes that were put, the room for them, the puts that are to fail by their numbers, how many
+-- puts came and how many failed
 pub record SinkHeld : Type 0 where
   pub bytes : List ℕ
   pub room : ℕ
@@ -66,10 +71,11 @@ sink_state held = record { told = Some held.bytes; faults = held.faults }
 abbrev pub put_fails : SinkHeld → ℕ → Bool
 put_fails held len = is_to_fail held.puts held.calls || nat_lt held.room (length held.bytes + len)
 
--- The front of a piece that a put takes: all of it, or, where the put fails, half of it, rounded down,
--- and no more than there is room for.
+-- The front of a piece that a put takes: all of it, or, where the put fails, half of it, rounded
+-- down, and no more than there is room for.
 abbrev pub front_of : SinkHeld → List ℕ → List ℕ
-front_of held piece = if put_fails held (length piece) then take (min (held.room - length held.bytes) (length piece / 2)) piece else piece
+front_of held piece = if put_fails held (length piece)
+    then take (min (held.room - length held.bytes) (length piece / 2)) piece else piece
 
 -- a put of a piece, exactly
 abbrev pub after_put : SinkHeld → List ℕ → SinkHeld

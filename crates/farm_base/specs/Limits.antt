@@ -9,8 +9,9 @@ most_file_bytes = 2 ^ 31
 abbrev pub most_lines : ℕ
 most_lines = 1000000
 
--- The most turns of a farm, each of which adds an entry to its history. No run reaches them: at a billion turns a
--- second they last for more than a hundred years. Below them no count of turns passes 64 bits.
+-- The most turns of a farm, each of which adds an entry to its history. No run reaches them: at a
+-- billion turns a second they last for more than a hundred years. Below them no count of turns
+-- passes 64 bits.
 abbrev pub most_turns : ℕ
 most_turns = 2 ^ 62
 

@@ -6,8 +6,8 @@ use Rattle.farm_base.specs.declared.files.FileFault.{FileFault}
 use Rattle.farm_base.specs.declared.files.FileFault.TheVariants.{Failed, NoMemory}
 use Rattle.farm_base.specs.declared.sinks.SinkFault.{SinkFault}
 
--- An object of the outside at a moment: what it holds, where it tells that, and how many calls on it
--- failed so far.
+-- An object of the outside at a moment: what it holds, where it tells that, and how many calls on
+-- it failed so far.
 pub record Outside (T : Type 0) : Type 0 where
   pub told : Option T
   pub faults : ℕ
@@ -37,17 +37,23 @@ failed_read name = record { name = name; put = false }
 abbrev pub with_failed : FailedCall → FilesTold → FilesTold
 with_failed call files = record files { failed = files.failed ++ call ∷ [] }
 
--- A read of a name. After Ok all is as before, and where the files tell, the bytes are those that the
--- name holds. After Failed the count has risen, the failed read is noted where they tell, and nothing
--- else has changed. After NoMemory all is as before.
-abbrev pub Reads : Outside FilesTold → Outside FilesTold → List ℕ → Result (Vec ℕ Global) FileFault → Type 0
-Reads old new name (Ok bytes) = (new ≡ old) × IfSome old.told (λ t. t.content name ≡ Some bytes.items)
-Reads old new name (Err Failed) = (new.told ≡ option_map (with_failed (failed_read name)) old.told) × Counted old.faults new.faults
+-- A read of a name. After Ok all is as before, and where the files tell, the bytes are those that
+-- the name holds. After Failed the count has risen, the failed read is noted where they tell, and
+-- nothing else has changed. After NoMemory all is as before.
+abbrev pub Reads : Outside FilesTold → Outside FilesTold → List ℕ
+    → Result (Vec ℕ Global) FileFault → Type 0
+Reads old new name (Ok bytes) =
+    (new ≡ old) × IfSome old.told (λ t. t.content name ≡ Some bytes.items)
+Reads old new name (Err Failed) = (new.told ≡ option_map (with_failed (failed_read name)) old.told)
+    × Counted old.faults new.faults
 Reads old new name (Err NoMemory) = new ≡ old
 
--- A put of a piece. After Ok the whole piece is appended and the count is as before, after Failed some
--- front of the piece is appended and the count has risen. Whether the bytes are told stays.
-abbrev pub Puts : Outside (List ℕ) → Outside (List ℕ) → List ℕ → Result (Unit {0}) SinkFault → Type 0
-Puts old new piece (Ok done) = (new.told ≡ option_map (λ had. had ++ piece) old.told) × (new.faults ≡ old.faults)
+-- A put of a piece. After Ok the whole piece is appended and the count is as before, after Failed
+-- some front of the piece is appended and the count has risen. Whether the bytes are told stays.
+abbrev pub Puts : Outside (List ℕ) → Outside (List ℕ) → List ℕ
+    → Result (Unit {0}) SinkFault → Type 0
+Puts old new piece (Ok done) =
+    (new.told ≡ option_map (λ had. had ++ piece) old.told) × (new.faults ≡ old.faults)
 Puts old new piece (Err fault) =
-    (len : ℕ) × (len ≤ length piece) × (new.told ≡ option_map (λ had. had ++ take len piece) old.told) × Counted old.faults new.faults
+    (len : ℕ) × (len ≤ length piece) × (new.told
+    ≡ option_map (λ had. had ++ take len piece) old.told) × Counted old.faults new.faults

@@ -115,7 +115,8 @@ impl<W: Write> Sink for OutSink<W> {
     /// empty.
     fn put(&mut self, piece: &[u8]) -> Result<(), SinkFault>
         ensures state { Puts (untold self.old.faults) (untold self.new.faults) piece.now result }
-        ensures written { OnOk result (Appends (W.contents self.old.inner) (W.contents self.new.inner) piece.now) }
+        ensures written { OnOk result
+            (Appends (W.contents self.old.inner) (W.contents self.new.inner) piece.now) }
     {
         let written = self.inner.write_all(piece).is_ok() && self.inner.flush().is_ok();
         if written {

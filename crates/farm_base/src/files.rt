@@ -85,7 +85,12 @@ impl Model for MemFiles {
 
     ghost Value = { FilesHeld };
 
-    ghost view = { λ f. record { files = f.files.items; reads = f.reads.items; calls = f.calls; failed = f.failed.items } };
+    ghost view = { λ f. record {
+      files = f.files.items;
+      reads = f.reads.items;
+      calls = f.calls;
+      failed = f.failed.items;
+    } };
 }
 
 impl MemFiles {
@@ -96,7 +101,8 @@ impl MemFiles {
         files: Vec<(Text, Bytes)>,
         reads: Vec<u64>,
     ) -> Result<MemFiles, NoMemory>
-        ensures { IfOk result (λ f. f ≡ record { files = files.items; reads = reads.items; calls = 0; failed = [] }) }
+        ensures { IfOk result
+            (λ f. f ≡ record { files = files.items; reads = reads.items; calls = 0; failed = [] }) }
     {
         Ok(MemFiles {
             files,
@@ -128,7 +134,10 @@ pub(crate) fn is_to_fail(numbers: &[u64], n: u64) -> bool
 
 impl MemFiles {
     fn note(&mut self, alloc: Global, name: &str) -> Result<(), NoMemory>
-        ensures done { OnOk result (self.new ≡ record self.old { calls = next_count self.old.calls; failed = self.old.failed ++ failed_read name.now ∷ [] }) }
+        ensures done { OnOk result (self.new ≡ record self.old {
+          calls = next_count self.old.calls;
+          failed = self.old.failed ++ failed_read name.now ∷ [];
+        }) }
         ensures refused { OnErr result (self.new ≡ self.old) }
     {
         self.failed.push(FailedCall {

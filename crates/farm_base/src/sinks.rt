@@ -44,7 +44,13 @@ impl Model for MemSink {
 
     ghost Value = { SinkHeld };
 
-    ghost view = { λ s. record { bytes = s.bytes.items; room = s.room; puts = s.puts.items; calls = s.calls; faults = s.faults } };
+    ghost view = { λ s. record {
+      bytes = s.bytes.items;
+      room = s.room;
+      puts = s.puts.items;
+      calls = s.calls;
+      faults = s.faults;
+    } };
 
     ghost invariant = { λ s. (length s.bytes.items ≤ s.room) × (s.room ≤ vec_capacity s.bytes) };
 }
@@ -53,7 +59,8 @@ impl MemSink {
     /// An empty sink with room for so many bytes. `puts` are the numbers, from 0, of the puts that are to
     /// fail. A put past the room fails too.
     pub fn new(alloc: Global, room: u32, puts: Vec<u64>) -> Result<MemSink, NoMemory>
-        ensures { IfOk result (λ s. s ≡ record { bytes = []; room = room; puts = puts.items; calls = 0; faults = 0 }) }
+        ensures { IfOk result (λ s. s
+            ≡ record { bytes = []; room = room; puts = puts.items; calls = 0; faults = 0 }) }
     {
         Ok(MemSink {
             bytes: Vec::with_capacity(alloc, room as usize)?,

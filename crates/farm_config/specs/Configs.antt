@@ -10,7 +10,8 @@ use Rattle.farm_history.specs.Limits.{most_waiting, most_dirty, AreLimits}
 use Rattle.farm_config.specs.Limits.{most_maps, most_zoom, most_files, most_workers}
 use Rattle.farm_config.specs.declared.config.RestyleEntry.{RestyleEntry}
 
--- a map: its name, the name of its style's file, the size of its tiles in pixels and its greatest zoom
+-- a map: its name, the name of its style's file, the size of its tiles in pixels and its greatest
+-- zoom
 pub record MapEntry : Type 0 where
   pub name : List ℕ
   pub style : List ℕ
@@ -33,7 +34,13 @@ pub record Config : Type 0 where
 
 -- the greatest limits of the queues, which are also the defaults
 abbrev pub greatest_limits : Limits
-greatest_limits = record { prio = most_waiting; request = most_waiting; low = most_waiting; dirty = most_dirty; bulk = most_waiting }
+greatest_limits = record {
+  prio = most_waiting;
+  request = most_waiting;
+  low = most_waiting;
+  dirty = most_dirty;
+  bulk = most_waiting;
+}
 
 -- a map of this name is among them
 abbrev pub map_has : List ℕ → List MapEntry → Bool
@@ -45,7 +52,8 @@ map_place name maps = position (λ m. bytes_eq m.name name) maps
 
 -- a map keeps its ranges, and no earlier one has its name
 abbrev pub map_fits : List MapEntry → MapEntry → Bool
-map_fits before m = is_map_name m.name && is_tile_size m.tile && nat_le m.max_zoom most_zoom && not (map_has m.name before)
+map_fits before m = is_map_name m.name && is_tile_size m.tile && nat_le m.max_zoom most_zoom
+    && not (map_has m.name before)
 
 -- the restyle's map is one of so many
 abbrev pub restyle_known : ℕ → RestyleEntry → Bool
@@ -57,9 +65,11 @@ pub record IsMapEntry (name : List ℕ) (tile max_zoom : ℕ) : Type 0 where
   pub tile_fits : IsTileSize tile
   pub zoom_fits : max_zoom ≤ most_zoom
 
--- what every configuration keeps: 1 to 16 maps that keep their ranges and have distinct names, 1 to 16 workers, limits within theirs, at most 256 updates, expiry lists and
--- restyles, and each restyle of a map that is there
-pub record IsConfig (maps : List MapEntry) (updates expiries : List (List ℕ)) (workers : ℕ) (limits : Limits) (restyles : List RestyleEntry) : Type 0 where
+-- what every configuration keeps: 1 to 16 maps that keep their ranges and have distinct names, 1 to
+-- 16 workers, limits within theirs, at most 256 updates, expiry lists and restyles, and each
+-- restyle of a map that is there
+pub record IsConfig (maps : List MapEntry) (updates expiries : List (List ℕ)) (workers : ℕ)
+    (limits : Limits) (restyles : List RestyleEntry) : Type 0 where
   pub some_maps : 1 ≤ length maps
   pub few_maps : length maps ≤ most_maps
   pub maps_fit : IsTrue (each_after map_fits [] maps)

@@ -1,5 +1,5 @@
--- The kinds of values in a configuration. Each is read under the number of its key: a value of the wrong
--- kind or a wrong text is Shape of it, a number outside its range is Range of it.
+-- The kinds of values in a configuration. Each is read under the number of its key: a value of the
+-- wrong kind or a wrong text is Shape of it, a number outside its range is Range of it.
 use Rattle.std.specs.Prelude.{ℕ, Bool, if◌then◌else◌, List, Option, Some, Result, Ok, Err}
 use Rattle.std.specs.Option.{ok_or}
 use Rattle.serde_json.specs.Data.{Data}
@@ -22,7 +22,8 @@ number_within key low high d = whole_number (Shape key) (Range key) low high d
 
 -- the size of a tile
 unfoldable pub a_tile_size : ℕ → Data → Result ℕ ConfigFault
-a_tile_size key d = whole_number (Shape key) (Range key) 16 512 d >>= λ n. if is_tile_size n then Ok n else Err (Range key)
+a_tile_size key d = whole_number (Shape key) (Range key)
+    16 512 d >>= λ n. if is_tile_size n then Ok n else Err (Range key)
 
 -- an address
 unfoldable pub an_address : ℕ → Data → Result (Option (List ℕ)) ConfigFault

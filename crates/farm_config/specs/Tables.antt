@@ -1,5 +1,5 @@
--- What a configuration says, key by key in reading order: the value, or the first fault with the number of
--- its key. A line is a step; the first step that has a fault ends the reading.
+-- What a configuration says, key by key in reading order: the value, or the first fault with the
+-- number of its key. A line is a step; the first step that has a fault ends the reading.
 use Rattle.std.specs.Prelude.{ℕ, false, not, nat_le, nat_lt, List, [], ◌∷◌, length, codes, Option, None, Result, Ok}
 use Rattle.std.specs.Option.{ok_or}
 use Rattle.serde_json.specs.Data.{Data}
@@ -17,11 +17,13 @@ use Rattle.farm_config.specs.declared.config.RestyleEntry.{RestyleEntry}
 use Rattle.farm_config.specs.declared.fault.ConfigFault.{ConfigFault}
 use Rattle.farm_config.specs.declared.fault.ConfigFault.TheVariants.{NotJson, Shape, Range, Double}
 
--- a map at its place; there is none after 16, and an earlier map of its name is Double, after its keys
+-- a map at its place; there is none after 16, and an earlier map of its name is Double, after its
+-- keys
 unfoldable pub map_entry : ℕ → List MapEntry → Data → Result MapEntry ConfigFault
 map_entry place before d = do
   u ← check (nat_lt place most_maps) (Range 1)
-  u ← opened (Shape 1) (Shape 1) (codes "name" ∷ codes "style" ∷ codes "tile" ∷ codes "maxzoom" ∷ []) d
+  u ← opened (Shape 1) (Shape 1)
+      (codes "name" ∷ codes "style" ∷ codes "tile" ∷ codes "maxzoom" ∷ []) d
   name ← needed (Shape 1) (a_map_name 1) (get (codes "name") d)
   style ← needed (Shape 1) (text (Shape 1)) (get (codes "style") d)
   tile ← needed (Shape 1) (a_tile_size 1) (get (codes "tile") d)
@@ -50,7 +52,8 @@ files_of key d = list (Shape key) d >>= λ items. list_of (file_after key) items
 -- the limits of the queues, each the greatest where it is absent
 unfoldable pub limits_of : Data → Result Limits ConfigFault
 limits_of d = do
-  u ← opened (Shape 6) (Shape 6) (codes "prio" ∷ codes "request" ∷ codes "low" ∷ codes "dirty" ∷ codes "bulk" ∷ []) d
+  u ← opened (Shape 6) (Shape 6)
+      (codes "prio" ∷ codes "request" ∷ codes "low" ∷ codes "dirty" ∷ codes "bulk" ∷ []) d
   prio ← or_value most_waiting (number_within 6 1 most_waiting) (get (codes "prio") d)
   request ← or_value most_waiting (number_within 6 1 most_waiting) (get (codes "request") d)
   low ← or_value most_waiting (number_within 6 1 most_waiting) (get (codes "low") d)
@@ -59,7 +62,8 @@ limits_of d = do
   Ok (record { prio = prio; request = request; low = low; dirty = dirty; bulk = bulk })
 
 -- a restyle of one of the maps, which it names; there are at most 256
-unfoldable pub restyle_after : List MapEntry → List RestyleEntry → Data → Result RestyleEntry ConfigFault
+unfoldable pub restyle_after : List MapEntry → List RestyleEntry → Data
+    → Result RestyleEntry ConfigFault
 restyle_after maps before d = do
   u ← check (nat_lt (length before) most_files) (Range 10)
   u ← opened (Shape 10) (Shape 10) (codes "map" ∷ codes "style" ∷ []) d
@@ -72,10 +76,13 @@ restyle_after maps before d = do
 unfoldable pub restyles_of : List MapEntry → Data → Result (List RestyleEntry) ConfigFault
 restyles_of maps d = list (Shape 10) d >>= λ items. list_of (restyle_after maps) items
 
--- a configuration: its keys in the order of their numbers, 1 to 11; the object itself has the number 0
+-- a configuration: its keys in the order of their numbers, 1 to 11; the object itself has the
+-- number 0
 unfoldable pub config_of : Data → Result Config ConfigFault
 config_of d = do
-  u ← opened (Shape 0) (Shape 0) (codes "maps" ∷ codes "data" ∷ codes "updates" ∷ codes "expiries" ∷ codes "workers" ∷ codes "limits" ∷ codes "renderd" ∷ codes "tiles" ∷ codes "control" ∷ codes "restyles" ∷ codes "resume" ∷ []) d
+  u ← opened (Shape 0) (Shape 0) (codes "maps" ∷ codes "data" ∷ codes "updates" ∷ codes "expiries"
+      ∷ codes "workers" ∷ codes "limits" ∷ codes "renderd" ∷ codes "tiles" ∷ codes "control"
+      ∷ codes "restyles" ∷ codes "resume" ∷ []) d
   maps ← needed (Shape 1) maps_of (get (codes "maps") d)
   dataset ← needed (Shape 2) (text (Shape 2)) (get (codes "data") d)
   updates ← or_value [] (files_of 3) (get (codes "updates") d)
@@ -87,7 +94,19 @@ config_of d = do
   control ← or_value None (an_address 9) (get (codes "control") d)
   restyles ← or_value [] (restyles_of maps) (get (codes "restyles") d)
   resume ← or_value false (λ e. ok_or (as_bool e) (Shape 11)) (get (codes "resume") d)
-  Ok (record { maps = maps; dataset = dataset; updates = updates; expiries = expiries; workers = workers; limits = limits; renderd = renderd; tiles = tiles; control = control; restyles = restyles; resume = resume })
+  Ok (record {
+    maps = maps;
+    dataset = dataset;
+    updates = updates;
+    expiries = expiries;
+    workers = workers;
+    limits = limits;
+    renderd = renderd;
+    tiles = tiles;
+    control = control;
+    restyles = restyles;
+    resume = resume;
+  })
 
 -- what the bytes of a configuration say
 unfoldable pub config_in : List ℕ → Result Config ConfigFault

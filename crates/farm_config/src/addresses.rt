@@ -9,7 +9,9 @@ use line_reading::{cut, number_below};
 
 fn after_number(text: &str, end: char, bound: u32) -> Option<&str>
     requires { end < 128 }
-    ensures { option_map (λ s. s.now) result ≡ option_and_then (λ p. if is_some (decimal_below bound p.0) then Some p.1 else None) (cut_at end text.entry.now) }
+    ensures { option_map (λ s. s.now) result
+        ≡ option_and_then (λ p. if is_some (decimal_below bound p.0) then Some p.1 else None)
+        (cut_at end text.entry.now) }
 {
     match cut(text, end) {
         Some((number, rest)) if number_below(number, bound).is_some() => Some(rest),

@@ -44,7 +44,8 @@ impl ReadItem for FileItems {
 
 fn file_list(alloc: Global, items: &[Value], key: u32) -> Result<Vec<Text>, ConfigFault>
     requires { length items.now < 2 ^ 64 }
-    ensures value { Gives fault.NoMemory (λ v. v.items) (list_of (spec.file_after key) (items_view items.now)) result }
+    ensures value { Gives fault.NoMemory (λ v. v.items)
+        (list_of (spec.file_after key) (items_view items.now)) result }
     ensures few { IfOk result (λ v. length v.items ≤ most_files) }
 {
     let names = read_list(alloc, &FileItems { key }, items)?;
@@ -54,7 +55,8 @@ fn file_list(alloc: Global, items: &[Value], key: u32) -> Result<Vec<Text>, Conf
 /// The names of files at a key that may be absent.
 #[tactic(auto, unfolding(crate::specs::Tables::files_of))]
 pub fn files(alloc: Global, found: Option<&Value>, key: u32) -> Result<Vec<Text>, ConfigFault>
-    ensures value { Gives fault.NoMemory (λ v. v.items) (or_value [] (spec.files_of key) (option_map (λ v. view v.now) found.entry)) result }
+    ensures value { Gives fault.NoMemory (λ v. v.items)
+        (or_value [] (spec.files_of key) (option_map (λ v. view v.now) found.entry)) result }
     ensures few { IfOk result (λ v. length v.items ≤ most_files) }
 {
     if found.is_none() {

@@ -28,7 +28,8 @@ pub fn a_file(value: &Value, key: u32) -> Result<&str, ConfigFault>
 
 /// The name of a file, which has to be there.
 pub fn file_at<'a>(object: &'a Value, name: &str, key: u32) -> Result<&'a str, ConfigFault>
-    ensures { seen (λ s. s.now) result ≡ needed (fault.Shape key) (inner.a_file key) (get name.now (view object.entry.now)) }
+    ensures { seen (λ s. s.now) result
+        ≡ needed (fault.Shape key) (inner.a_file key) (get name.now (view object.entry.now)) }
 {
     match object.get(name) {
         Some(value) => a_file(value, key),
@@ -51,7 +52,8 @@ fn a_map_name(value: &Value, key: u32) -> Result<&str, ConfigFault>
 
 /// The name of a map, which has to be there.
 pub fn map_name_at<'a>(object: &'a Value, name: &str, key: u32) -> Result<&'a str, ConfigFault>
-    ensures value { seen (λ s. s.now) result ≡ needed (fault.Shape key) (spec.a_map_name key) (get name.now (view object.entry.now)) }
+    ensures value { seen (λ s. s.now) result
+        ≡ needed (fault.Shape key) (spec.a_map_name key) (get name.now (view object.entry.now)) }
     ensures fits { IfOk result (λ s. IsTrue (is_map_name s.now)) }
 {
     match object.get(name) {
@@ -88,7 +90,8 @@ pub fn number_or(
 ) -> Result<u32, ConfigFault>
     requires low { low ≤ absent }
     requires high { absent ≤ high }
-    ensures value { result ≡ or_value absent (spec.number_within key low high) (get name.now (view object.now)) }
+    ensures value { result
+        ≡ or_value absent (spec.number_within key low high) (get name.now (view object.now)) }
     ensures low { IfOk result (λ n. low ≤ n) }
     ensures high { IfOk result (λ n. n ≤ high) }
 {
@@ -112,7 +115,8 @@ fn a_tile_size(value: &Value, key: u32) -> Result<u32, ConfigFault>
 
 /// The size of a tile, which has to be there.
 pub fn tile_size_at(object: &Value, name: &str, key: u32) -> Result<u32, ConfigFault>
-    ensures value { result ≡ needed (fault.Shape key) (spec.a_tile_size key) (get name.now (view object.now)) }
+    ensures value { result
+        ≡ needed (fault.Shape key) (spec.a_tile_size key) (get name.now (view object.now)) }
     ensures fits { IfOk result IsTileSize }
 {
     object
@@ -139,7 +143,8 @@ pub fn address_or_none(
     name: &str,
     key: u32,
 ) -> Result<Option<Text>, ConfigFault>
-    ensures { Gives fault.NoMemory (λ o. o) (or_value None (spec.an_address key) (get name.now (view object.now))) result }
+    ensures { Gives fault.NoMemory (λ o. o)
+        (or_value None (spec.an_address key) (get name.now (view object.now))) result }
 {
     match object.get(name) {
         Some(value) => an_address(alloc, value, key),

@@ -39,7 +39,8 @@ pub fn map_place(name: &str, maps: &[MapEntry]) -> Option<usize>
 
 #[tactic(auto, unfolding(crate::specs::Tables::map_entry))]
 fn map(alloc: Global, before: &[MapEntry], object: &Value) -> Result<MapEntry, ConfigFault>
-    ensures value { Gives fault.NoMemory (λ x. x) (spec.map_entry (length before.now) before.now (view object.now)) result }
+    ensures value { Gives fault.NoMemory (λ x. x)
+        (spec.map_entry (length before.now) before.now (view object.now)) result }
     ensures place { IfOk result (λ m. IsTrue (nat_lt (length before.now) most_maps)) }
     ensures fit { IfOk result (λ m. IsTrue (plain.map_fits before.now m)) }
 {
@@ -96,7 +97,8 @@ impl ReadItem for MapItems {
 
 fn map_list(alloc: Global, items: &[Value]) -> Result<Vec<MapEntry>, ConfigFault>
     requires { length items.now < 2 ^ 64 }
-    ensures value { Gives fault.NoMemory (λ v. v.items) (list_of (λ before e. spec.map_entry (length before) before e) (items_view items.now)) result }
+    ensures value { Gives fault.NoMemory (λ v. v.items) (list_of
+        (λ before e. spec.map_entry (length before) before e) (items_view items.now)) result }
     ensures few { IfOk result (λ v. length v.items ≤ most_maps) }
     ensures fit { IfOk result (λ v. IsTrue (each_after plain.map_fits [] v.items)) }
 {
@@ -107,7 +109,8 @@ fn map_list(alloc: Global, items: &[Value]) -> Result<Vec<MapEntry>, ConfigFault
 /// The maps at the key `maps`, of which there is at least one.
 #[tactic(auto, unfolding(crate::specs::Tables::maps_of))]
 pub fn maps(alloc: Global, found: Option<&Value>) -> Result<Vec<MapEntry>, ConfigFault>
-    ensures value { Gives fault.NoMemory (λ v. v.items) (needed (fault.Shape 1) spec.maps_of (option_map (λ v. view v.now) found.entry)) result }
+    ensures value { Gives fault.NoMemory (λ v. v.items)
+        (needed (fault.Shape 1) spec.maps_of (option_map (λ v. view v.now) found.entry)) result }
     ensures some { IfOk result (λ v. 1 ≤ length v.items) }
     ensures few { IfOk result (λ v. length v.items ≤ most_maps) }
     ensures fit { IfOk result (λ v. IsTrue (each_after plain.map_fits [] v.items)) }

@@ -44,7 +44,8 @@ pub fn open_limits(object: &Value) -> Result<(), ConfigFault>
 
 /// A restyle.
 pub fn open_restyle(object: &Value) -> Result<(), ConfigFault>
-    ensures { result ≡ opened (fault.Shape 10) (fault.Shape 10) spec.restyle_keys (view object.now) }
+    ensures { result
+        ≡ opened (fault.Shape 10) (fault.Shape 10) spec.restyle_keys (view object.now) }
 {
     let shape = ConfigFault::Shape(10);
     opened(object, shape, shape, &["map", "style"])

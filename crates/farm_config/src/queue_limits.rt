@@ -37,7 +37,8 @@ fn limits(object: &Value) -> Result<Limits, ConfigFault>
 
 /// The limits at the key `limits`, the greatest where it is absent.
 pub fn limits_or_greatest(found: Option<&Value>) -> Result<Limits, ConfigFault>
-    ensures value { result ≡ or_value plain.greatest_limits spec.limits_of (option_map (λ v. view v.now) found.entry) }
+    ensures value { result
+        ≡ or_value plain.greatest_limits spec.limits_of (option_map (λ v. view v.now) found.entry) }
     ensures fits { IfOk result AreLimits }
 {
     match found {

@@ -64,9 +64,11 @@ fn start(
     object: &Value,
 ) -> Result<(Vec<RestyleEntry>, bool), ConfigFault>
     requires { length maps.now ≤ most_maps }
-    ensures value { Gives fault.NoMemory (λ p. (p.0.items, p.1)) (start_of maps.now (view object.now)) result }
+    ensures value { Gives fault.NoMemory (λ p. (p.0.items, p.1))
+        (start_of maps.now (view object.now)) result }
     ensures few { IfOk result (λ p. length p.0.items ≤ most_files) }
-    ensures known { IfOk result (λ p. IsTrue (list_all (restyle_known (length maps.now)) p.0.items)) }
+    ensures known { IfOk result
+        (λ p. IsTrue (list_all (restyle_known (length maps.now)) p.0.items)) }
 {
     let restyles = restyles(alloc, maps, object.get("restyles"))?;
     let resume = truth_or_false(object, "resume", 11)?;

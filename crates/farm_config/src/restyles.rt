@@ -23,7 +23,8 @@ use serde_json::Value;
 use std::alloc::Global;
 
 fn map_name_of(object: &Value) -> Result<&str, ConfigFault>
-    ensures { seen (λ s. s.now) result ≡ needed (fault.Shape 10) (text (fault.Shape 10)) (get (codes "map") (view object.entry.now)) }
+    ensures { seen (λ s. s.now) result ≡ needed (fault.Shape 10) (text (fault.Shape 10))
+        (get (codes "map") (view object.entry.now)) }
 {
     match object.get("map") {
         Some(value) => text(value, ConfigFault::Shape(10)),
@@ -76,9 +77,11 @@ fn restyle_list(
 ) -> Result<Vec<RestyleEntry>, ConfigFault>
     requires maps { length maps.now ≤ most_maps }
     requires items { length items.now < 2 ^ 64 }
-    ensures value { Gives fault.NoMemory (λ v. v.items) (list_of (spec.restyle_after maps.now) (items_view items.now)) result }
+    ensures value { Gives fault.NoMemory (λ v. v.items)
+        (list_of (spec.restyle_after maps.now) (items_view items.now)) result }
     ensures few { IfOk result (λ v. length v.items ≤ most_files) }
-    ensures known { IfOk result (λ v. IsTrue (list_all (plain.restyle_known (length maps.now)) v.items)) }
+    ensures known { IfOk result
+        (λ v. IsTrue (list_all (plain.restyle_known (length maps.now)) v.items)) }
 {
     let restyles = read_list(alloc, &RestyleItems { maps }, items)?;
     Ok(restyles)
@@ -92,9 +95,11 @@ pub fn restyles(
     found: Option<&Value>,
 ) -> Result<Vec<RestyleEntry>, ConfigFault>
     requires { length maps.now ≤ most_maps }
-    ensures value { Gives fault.NoMemory (λ v. v.items) (or_value [] (spec.restyles_of maps.now) (option_map (λ v. view v.now) found.entry)) result }
+    ensures value { Gives fault.NoMemory (λ v. v.items) (or_value [] (spec.restyles_of maps.now)
+        (option_map (λ v. view v.now) found.entry)) result }
     ensures few { IfOk result (λ v. length v.items ≤ most_files) }
-    ensures known { IfOk result (λ v. IsTrue (list_all (plain.restyle_known (length maps.now)) v.items)) }
+    ensures known { IfOk result
+        (λ v. IsTrue (list_all (plain.restyle_known (length maps.now)) v.items)) }
 {
     if found.is_none() {
         return Ok(Vec::new(alloc));

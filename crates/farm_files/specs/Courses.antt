@@ -23,11 +23,13 @@ use Rattle.farm_files.specs.Inputs.{FarmInputs, ScriptInputs, ServeInputs}
 
 -- a map's style says the map, with its name, tile size and greatest zoom
 unfoldable pub map_course_by : TextReading → MapEntry → Course MapPlan
-map_course_by says m = style_course_by says m.style >>= λ style. made (record { name = m.name; style = style; tile = m.tile; max_zoom = m.max_zoom })
+map_course_by says m = style_course_by says m.style >>= λ style. made
+    (record { name = m.name; style = style; tile = m.tile; max_zoom = m.max_zoom })
 
 -- a restyle's style says the restyle
 unfoldable pub restyle_course_by : TextReading → RestyleEntry → Course Restyle
-restyle_course_by says r = style_course_by says r.style >>= λ style. made (record { map = r.map; style = style })
+restyle_course_by says r =
+    style_course_by says r.style >>= λ style. made (record { map = r.map; style = style })
 
 -- all files that a configuration names, in order, say a farm
 unfoldable pub inputs_course_by : TextReading → Config → Course FarmInputs
@@ -38,7 +40,14 @@ inputs_course_by says config = do
   updates ← each (file update_in data_text) config.updates
   lists ← each (file list_in list_text) config.expiries
   made (record {
-    plan = record { maps = maps; dataset = layers; updates = updates; workers = config.workers; limits = config.limits; restyles = restyles };
+    plan = record {
+      maps = maps;
+      dataset = layers;
+      updates = updates;
+      workers = config.workers;
+      limits = config.limits;
+      restyles = restyles;
+    };
     lists = lists;
   })
 

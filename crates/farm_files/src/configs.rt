@@ -21,7 +21,8 @@ pub(crate) fn config_file<F: Files>(
     files: &mut F,
     name: &str,
 ) -> Result<Config, Stop>
-    ensures { Follows (file config_in config_text name.now) (F.state files.old) (F.state files.new) result }
+    ensures { Follows (file config_in config_text name.now) (F.state files.old)
+        (F.state files.new) result }
 {
     let bytes = read_file(alloc, files, name)?;
     checked(alloc, name, read_config(alloc, bytes.as_slice()))
@@ -62,7 +63,8 @@ pub(crate) fn addressed_file<F: Files>(
     files: &mut F,
     name: &str,
 ) -> Result<Config, Stop>
-    ensures { Follows (file addressed_in config_text name.now) (F.state files.old) (F.state files.new) result }
+    ensures { Follows (file addressed_in config_text name.now) (F.state files.old)
+        (F.state files.new) result }
 {
     let bytes = read_file(alloc, files, name)?;
     checked(alloc, name, addressed_config(alloc, bytes.as_slice()))

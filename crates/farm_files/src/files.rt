@@ -10,7 +10,8 @@ use std::alloc::Global;
 
 /// The bytes of the file of this name; Unreadable with its line where the read failed.
 pub fn read_file<F: Files>(alloc: Global, files: &mut F, name: &str) -> Result<Vec<u8>, Stop>
-    ensures { Follows (reads name.now made) (F.state files.old) (F.state files.new) (seen (λ v. v.items) result) }
+    ensures { Follows (reads name.now made) (F.state files.old) (F.state files.new)
+        (seen (λ v. v.items) result) }
 {
     match files.read(alloc, name) {
         Ok(bytes) => Ok(bytes),
@@ -26,7 +27,8 @@ pub fn checked<A: Drop, E: FaultText>(
     name: &str,
     read: Result<A, E>,
 ) -> Result<A, Stop>
-    ensures { (means : Result A E) → Tells E.text means read → Says (judged E.text name.now means) result }
+    ensures { (means : Result A E) → Tells E.text means read
+        → Says (judged E.text name.now means) result }
 {
     match read {
         Ok(value) => Ok(value),

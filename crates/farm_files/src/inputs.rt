@@ -42,7 +42,8 @@ pub fn farm_inputs<F: Files>(
     files: &mut F,
     config: &Config,
 ) -> Result<FarmInputs, Stop>
-    ensures follows { Follows (inputs_course config.now) (F.state files.old) (F.state files.new) result }
+    ensures follows { Follows (inputs_course config.now) (F.state files.old)
+        (F.state files.new) result }
     ensures valid { IfOk result (λ i. IsPlan i.plan) }
 {
     let maps = load_each(alloc, &MapFiles, files, config.maps.as_slice())?;

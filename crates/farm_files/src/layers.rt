@@ -14,7 +14,8 @@ use std::alloc::Global;
 /// Reads a data file and checks it.
 #[tactic(auto, using(crate::proofs::Judged::file_stops))]
 pub fn data_layers<F: Files>(alloc: Global, files: &mut F, name: &str) -> Result<Dataset, Stop>
-    ensures { Follows (file dataset_in data_text name.now) (F.state files.old) (F.state files.new) result }
+    ensures { Follows (file dataset_in data_text name.now) (F.state files.old)
+        (F.state files.new) result }
 {
     let bytes = read_file(alloc, files, name)?;
     checked(alloc, name, read_data(alloc, bytes.as_slice()))

@@ -26,7 +26,8 @@ pub trait Load {
         files: &mut F,
         item: &Self::Item,
     ) -> Result<Self::Value, Stop>
-        ensures { Follows (course self.now item.now) (F.state files.old) (F.state files.new) result };
+        ensures { Follows (course self.now item.now) (F.state files.old)
+            (F.state files.new) result };
 }
 
 /// Reads the files of these items, in order, and gives what each has made. It ends at the first file that
@@ -37,7 +38,8 @@ pub fn load_each<L: Load, F: Files>(
     files: &mut F,
     items: &[L::Item],
 ) -> Result<Vec<L::Value>, Stop>
-    ensures { Follows (each (L.course loader.now) items.now) (F.state files.old) (F.state files.new) (seen (λ v. v.items) result) }
+    ensures { Follows (each (L.course loader.now) items.now) (F.state files.old) (F.state files.new)
+        (seen (λ v. v.items) result) }
 {
     let mut loaded = Vec::new(alloc);
     for item in items {

@@ -111,7 +111,8 @@ impl Load for RestyleFiles {
         files: &mut F,
         entry: &RestyleEntry,
     ) -> Result<Restyle, Stop>
-        ensures { Follows (restyle_course entry.now) (F.state files.old) (F.state files.new) result }
+        ensures { Follows (restyle_course entry.now) (F.state files.old)
+            (F.state files.new) result }
     {
         restyle_file(alloc, files, entry)
     }

@@ -65,7 +65,8 @@ impl Load for RasterFiles {
     ghost course = { λ _ raster. raster_course raster };
 
     fn load<F: Files>(&self, alloc: Global, files: &mut F, raster: &RasterRef) -> Result<Grid, Stop>
-        ensures { Follows (raster_course raster.now) (F.state files.old) (F.state files.new) result }
+        ensures { Follows (raster_course raster.now) (F.state files.old)
+            (F.state files.new) result }
     {
         raster_file(alloc, files, raster)
     }

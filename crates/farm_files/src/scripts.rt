@@ -57,14 +57,16 @@ impl Model for ServeInputs {
 
 #[tactic(auto, using(crate::proofs::Judged::file_stops))]
 fn script_file<F: Files>(alloc: Global, files: &mut F, name: &str) -> Result<Script, Stop>
-    ensures { Follows (file script_in script_text name.now) (F.state files.old) (F.state files.new) result }
+    ensures { Follows (file script_in script_text name.now) (F.state files.old)
+        (F.state files.new) result }
 {
     let bytes = read_file(alloc, files, name)?;
     checked(alloc, name, read_script(alloc, bytes.as_slice()))
 }
 
 fn named_inputs<F: Files>(alloc: Global, files: &mut F, config: Config) -> Result<FarmInputs, Stop>
-    ensures follows { Follows (inputs_course config) (F.state files.old) (F.state files.new) result }
+    ensures follows { Follows (inputs_course config) (F.state files.old)
+        (F.state files.new) result }
     ensures valid { IfOk result (λ i. IsPlan i.plan) }
 {
     farm_inputs(alloc, files, &config)
@@ -78,7 +80,8 @@ pub fn script_files<F: Files>(
     config_name: &str,
     script_name: &str,
 ) -> Result<ScriptInputs, Stop>
-    ensures follows { Follows (script_course config_name.now script_name.now) (F.state files.old) (F.state files.new) result }
+    ensures follows { Follows (script_course config_name.now script_name.now) (F.state files.old)
+        (F.state files.new) result }
     ensures valid { IfOk result (λ s. IsPlan s.inputs.plan) }
 {
     let config = config_file(alloc, files, config_name)?;
@@ -99,7 +102,8 @@ pub fn serve_files<F: Files>(
     files: &mut F,
     config_name: &str,
 ) -> Result<ServeInputs, Stop>
-    ensures follows { Follows (serve_course config_name.now) (F.state files.old) (F.state files.new) result }
+    ensures follows { Follows (serve_course config_name.now) (F.state files.old)
+        (F.state files.new) result }
     ensures valid { IfOk result (λ s. IsPlan s.inputs.plan) }
 {
     let config = addressed_file(alloc, files, config_name)?;

@@ -27,7 +27,8 @@ pub fn bound_style<F: Files>(alloc: Global, files: &mut F, name: &str) -> Result
 
 #[tactic(auto, using(crate::proofs::Judged::file_stops))]
 fn style_file<F: Files>(alloc: Global, files: &mut F, name: &str) -> Result<MapStyle, Stop>
-    ensures { Follows (file style_in style_text name.now) (F.state files.old) (F.state files.new) result }
+    ensures { Follows (file style_in style_text name.now) (F.state files.old)
+        (F.state files.new) result }
 {
     let bytes = read_file(alloc, files, name)?;
     checked(alloc, name, read_style(alloc, bytes.as_slice()))

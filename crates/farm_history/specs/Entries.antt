@@ -1,5 +1,5 @@
--- The events of a farm. A history is a list of entries, the newest first: in `e ∷ g` the entry e came last, and g is what came before it.
--- The place of e in it is the length of g.
+-- The events of a farm. A history is a list of entries, the newest first: in `e ∷ g` the entry e
+-- came last, and g is what came before it. The place of e in it is the length of g.
 use Rattle.std.specs.Prelude.{ℕ, Bool, List, [], ◌∷◌}
 use Rattle.plain_world.specs.declared.world.Tile.{Tile}
 use Rattle.farm_history.specs.declared.queues.Conn.{Conn}

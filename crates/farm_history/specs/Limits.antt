@@ -1,4 +1,5 @@
--- How many metatiles may wait in each queue. Code that keeps to the greatest numbers cites the constants of the same names.
+-- How many metatiles may wait in each queue. Code that keeps to the greatest numbers cites the
+-- constants of the same names.
 use Rattle.std.specs.Prelude.{ℕ, ◌≤◌}
 use Rattle.farm_history.specs.declared.queues.Limits.{Limits}
 

@@ -1,4 +1,5 @@
--- Words for lists: what holds of each item, numbers that differ, and the list without the first item that passes a test.
+-- Words for lists: what holds of each item, numbers that differ, and the list without the first
+-- item that passes a test.
 use Rattle.std.specs.Prelude.{ℕ, Bool, false, ◌==◌, if◌then◌else◌, ◌≡◌, List, [], ◌∷◌}
 use Rattle.std.specs.List.{list_any}
 

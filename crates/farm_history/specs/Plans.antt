@@ -13,8 +13,8 @@ use Rattle.farm_history.specs.declared.queues.Conn.{Conn}
 use Rattle.farm_history.specs.declared.queues.Queue.{Queue}
 use Rattle.farm_history.specs.declared.queues.Limits.{Limits}
 
--- A plan. Maps, updates and styles go by their numbers, and data are the numbers of the updates that made them, in order,
--- so that nothing here needs a feature, a style or a pixel
+-- A plan. Maps, updates and styles go by their numbers, and data are the numbers of the updates
+-- that made them, in order, so that nothing here needs a feature, a style or a pixel
 pub record Plan : Type 0 where
   -- the greatest zoom of each map, by its place
   pub max_zooms : List ℕ
@@ -28,9 +28,11 @@ pub record Plan : Type 0 where
   pub restyles : List ℕ
   -- the first fault of update number n over the data, or none
   pub fault : List ℕ → ℕ → Option ApplyFault
-  -- whether a feature that update number n names over the data, old or new, reaches the key's metatile square
+  -- whether a feature that update number n names over the data, old or new, reaches the key's
+  -- metatile square
   pub reaches : List ℕ → ℕ → Key → Bool
-  -- the bytes of a map's tile in the style of that number (none: the map's first style) over the data; any function, which the laws do not look into
+  -- the bytes of a map's tile in the style of that number (none: the map's first style) over the
+  -- data; any function, which the laws do not look into
   pub drawing : ℕ → Option ℕ → Tile → List ℕ → List ℕ
 
 -- whether two metatiles are one
@@ -39,7 +41,8 @@ same_meta a b = (a.z == b.z) && ((a.x == b.x) && (a.y == b.y))
 
 -- whether two keys are one
 abbrev pub same_key : Key → Key → Bool
-same_key a b = (a.map == b.map) && ((a.meta.z == b.meta.z) && ((a.meta.x == b.meta.x) && (a.meta.y == b.meta.y)))
+same_key a b = (a.map == b.map)
+    && ((a.meta.z == b.meta.z) && ((a.meta.x == b.meta.x) && (a.meta.y == b.meta.y)))
 
 -- whether two connections are one
 abbrev pub same_conn : Conn → Conn → Bool
@@ -90,9 +93,11 @@ abbrev pub greatest_zoom : List ℕ → Option ℕ → Option ℕ
 greatest_zoom zooms None = None
 greatest_zoom zooms (Some map) = slice_get zooms map
 
--- whether a spot can be served: its map is given and in the table, its zoom is at most the map's greatest, and its column and row are below 2^z
+-- whether a spot can be served: its map is given and in the table, its zoom is at most the map's
+-- greatest, and its column and row are below 2^z
 unfoldable pub is_servable : Plan → Spot → Bool
-is_servable p spot = is_at_most spot.z (greatest_zoom p.max_zooms spot.map) && (nat_lt spot.x (2 ^ spot.z) && nat_lt spot.y (2 ^ spot.z))
+is_servable p spot = is_at_most spot.z (greatest_zoom p.max_zooms spot.map)
+    && (nat_lt spot.x (2 ^ spot.z) && nat_lt spot.y (2 ^ spot.z))
 
 -- whether a tile's square overlaps the square of the key's metatile, whatever the map
 unfoldable pub overlaps : Tile → Key → Bool
@@ -165,12 +170,15 @@ how_many_in ws queue = count_by (λ w. same_queue w.queue queue) ws
 
 -- whether a queue is below its limit
 abbrev pub has_room : Limits → Queue → List Waits → Bool
-has_room limits queue ws = nat_lt (count_by (λ w. same_queue w.queue queue) ws) (limit_of limits queue)
+has_room limits queue ws =
+    nat_lt (count_by (λ w. same_queue w.queue queue) ws) (limit_of limits queue)
 
 -- the first that waits in a queue
 abbrev pub first_in : List Waits → Queue → Option Waits
 first_in ws queue = find (λ w. same_queue w.queue queue) ws
 
--- the one that is taken next: the first of the first queue in which one waits, in renderd's order of its queues: prio, request, low, dirty, bulk
+-- the one that is taken next: the first of the first queue in which one waits, in renderd's order
+-- of its queues: prio, request, low, dirty, bulk
 unfoldable pub next : List Waits → Option Waits
-next ws = option_or (first_in ws Queue.Prio) (option_or (first_in ws Queue.Request) (option_or (first_in ws Queue.Low) (option_or (first_in ws Queue.Dirty) (first_in ws Queue.Bulk))))
+next ws = option_or (first_in ws Queue.Prio) (option_or (first_in ws Queue.Request) (option_or
+    (first_in ws Queue.Low) (option_or (first_in ws Queue.Dirty) (first_in ws Queue.Bulk))))

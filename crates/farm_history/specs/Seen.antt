@@ -1,4 +1,5 @@
--- What a farm may keep of its history: marks, drawings under way, and the asks that wait or have ended.
+-- What a farm may keep of its history: marks, drawings under way, and the asks that wait or have
+-- ended.
 use Rattle.std.specs.Prelude.{ℕ, Bool, false, ◌&&◌, not, ◌||◌, List, length, map, filter, find, Option, Some, None}
 use Rattle.std.specs.Option.{option_and_then}
 use Rattle.farm_history.specs.declared.keys.Key.{Key}
@@ -10,10 +11,12 @@ use Rattle.farm_history.specs.Entries.{Entry}
 use Rattle.farm_history.specs.Plans.{Plan, Waits, same_key, same_queue}
 use Rattle.farm_history.specs.Past.{Flight, flights, shown, version, is_touched_after, Numbered, open_asks, is_ended_after, replies_to}
 
--- the mark of a key that is shown, where before came before the Claim of what is shown: the version then, and whether the key is clean
+-- the mark of a key that is shown, where before came before the Claim of what is shown: the version
+-- then, and whether the key is clean
 abbrev pub mark_at : Plan → List Entry → Key → Option (List Entry) → Option Mark
 mark_at p h k None = None
-mark_at p h k (Some before) = Some (record { version = version before; clean = not (is_touched_after p h (length before) k) })
+mark_at p h k (Some before) =
+    Some (record { version = version before; clean = not (is_touched_after p h (length before) k) })
 
 -- the mark of a key: there is one exactly where the key is shown
 abbrev pub mark_after : Plan → List Entry → Key → Option Mark
@@ -32,7 +35,8 @@ is_clean_mark (Some m) = m.clean
 abbrev pub dirtied : Bool → Mark → Mark
 dirtied touching m = record { version = m.version; clean = not touching && m.clean }
 
--- a drawing under way, as it is kept: its ticket, its key, the version before its Claim, and whether an entry after its Claim touches the key
+-- a drawing under way, as it is kept: its ticket, its key, the version before its Claim, and
+-- whether an entry after its Claim touches the key
 pub record Taken : Type 0 where
   pub ticket : ℕ
   pub key : Key
@@ -41,11 +45,21 @@ pub record Taken : Type 0 where
 
 -- the flight as it is kept
 abbrev pub taken_of : Plan → List Entry → Flight → Taken
-taken_of p h f = record { ticket = f.ticket; key = f.key; version = version f.before; touched = is_touched_after p h (length f.before) f.key }
+taken_of p h f = record {
+  ticket = f.ticket;
+  key = f.key;
+  version = version f.before;
+  touched = is_touched_after p h (length f.before) f.key;
+}
 
 -- a drawing under way after an entry that touches the keys which pass the test
 abbrev pub overtaken_by : (Key → Bool) → Taken → Taken
-overtaken_by touching t = record { ticket = t.ticket; key = t.key; version = t.version; touched = touching t.key || t.touched }
+overtaken_by touching t = record {
+  ticket = t.ticket;
+  key = t.key;
+  version = t.version;
+  touched = touching t.key || t.touched;
+}
 
 -- the drawings under way, in order
 abbrev pub taken_after : Plan → List Entry → List Taken

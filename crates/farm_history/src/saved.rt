@@ -24,5 +24,9 @@ impl Model for Saved {
 
     ghost Value = { Saving };
 
-    ghost view = { λ s. record { styles = s.styles.items; updates = s.updates.items; clean = s.clean.items } };
+    ghost view = { λ s. record {
+      styles = s.styles.items;
+      updates = s.updates.items;
+      clean = s.clean.items;
+    } };
 }

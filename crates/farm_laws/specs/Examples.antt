@@ -1,4 +1,5 @@
--- Example histories of small farms, each from its first entry to its last. They show what the rules answer, and that the laws speak of something.
+-- Example histories of small farms, each from its first entry to its last. They show what the rules
+-- answer, and that the laws speak of something.
 use Rattle.std.specs.Prelude.{ℕ, zero, suc, Bool, true, false, ◌&&◌, ◌==◌, nat_lt, if◌then◌else◌, List, [], ◌∷◌, filter, Option, Some, None}
 use Rattle.std.specs.List.{list_any}
 use Rattle.farm_base.specs.declared.faults.ApplyFault.TheVariants.{NoFeature}
@@ -59,7 +60,8 @@ drawn ticket answer = Finish ticket true answer
 
 -- the first front collects the reply to a connection's ask
 abbrev pub reply : ℕ → ℕ → Outcome → Entry
-reply n ask outcome = Collect 0 (Collected.Reply (record { conn = conn n; ask = ask; outcome = outcome }))
+reply n ask outcome =
+    Collect 0 (Collected.Reply (record { conn = conn n; ask = ask; outcome = outcome }))
 
 -- the style's number plus one, or 0 for none
 abbrev pub style_place : Option ℕ → ℕ
@@ -107,8 +109,9 @@ asked_twice = goes_on [] (
     ∷ []
     )
 
--- A metatile is expired while it is drawn. Newcomers are turned away, the drawing is stored as dirty and done for those who had waited;
--- a new ask lifts it out of the dirty queue, and the next drawing is clean
+-- A metatile is expired while it is drawn. Newcomers are turned away, the drawing is stored as
+-- dirty and done for those who had waited; a new ask lifts it out of the dirty queue, and the next
+-- drawing is clean
 unfoldable pub expired_while_drawn : List Entry
 expired_while_drawn = goes_on [] (
     render 0 (spot 0 0 0) (Queued 0)
@@ -131,9 +134,11 @@ expired_while_drawn = goes_on [] (
 
 -- a farm with two updates that fit, and a third that removes a feature which is not there
 unfoldable pub updated : Plan
-updated = record (small_plan wide 2) { updates = 3; fault = λ known n. if n == 2 then Some (NoFeature 0 7) else None }
+updated = record (small_plan wide 2)
+    { updates = 3; fault = λ known n. if n == 2 then Some (NoFeature 0 7) else None }
 
--- An update leaves what is shown clean, with its older version; an expiry of a tile of another zoom makes it dirty
+-- An update leaves what is shown clean, with its older version; an expiry of a tile of another zoom
+-- makes it dirty
 unfoldable pub updated_then_expired : List Entry
 updated_then_expired = goes_on [] (
     render 0 (spot 0 0 0) (Queued 0)
@@ -148,7 +153,8 @@ updated_then_expired = goes_on [] (
     ∷ []
     )
 
--- An expiry of a tile of zoom 1 reaches the metatile of zoom 4 that lies in it, and not the one beside it
+-- An expiry of a tile of zoom 1 reaches the metatile of zoom 4 that lies in it, and not the one
+-- beside it
 unfoldable pub expired_from_above : List Entry
 expired_from_above = goes_on [] (
     render 0 (spot 4 8 8) (Queued 0)
@@ -180,7 +186,8 @@ updated_while_drawn = goes_on [] (
 unfoldable pub narrow : Plan
 narrow = small_plan (record { prio = 32; request = 2; low = 32; dirty = 2; bulk = 32 }) 2
 
--- Asks fill their queue, then the dirty queue, and then are dropped. Claims take prio, request, low and dirty in this order, and no more than there are workers; after a Stop none
+-- Asks fill their queue, then the dirty queue, and then are dropped. Claims take prio, request, low
+-- and dirty in this order, and no more than there are workers; after a Stop none
 unfoldable pub queues_filled : List Entry
 queues_filled = goes_on [] (
     render 0 (spot 10 0 0) (Queued 0)
@@ -212,7 +219,8 @@ asked_often zero = []
 asked_often (suc zero) = render 0 (spot 0 0 0) (Queued 0) ∷ []
 asked_often (suc (suc n)) = render 0 (spot 0 0 0) (Joined (suc n)) ∷ asked_often (suc n)
 
--- A put fails: the old drawing is no longer shown, and who waited is told so; the next drawing is stored. A read fails
+-- A put fails: the old drawing is no longer shown, and who waited is told so; the next drawing is
+-- stored. A read fails
 unfoldable pub put_failed : List Entry
 put_failed = goes_on [] (
     render 0 (spot 0 0 0) (Queued 0)
@@ -261,7 +269,8 @@ left_alone = goes_on [] (
 unfoldable pub low_narrow : Plan
 low_narrow = small_plan (record { prio = 32; request = 32; low = 1; dirty = 32; bulk = 32 }) 2
 
--- What waits in the bulk queue is moved by an ask of a better command while that one's queue has room, with those who wait for it
+-- What waits in the bulk queue is moved by an ask of a better command while that one's queue has
+-- room, with those who wait for it
 unfoldable pub lifted_from_bulk : List Entry
 lifted_from_bulk = goes_on [] (
     Ask (conn 0) Cmd.Bulk (spot 10 0 0) (Queued 0)
@@ -277,7 +286,8 @@ lifted_from_bulk = goes_on [] (
     ∷ []
     )
 
--- An ask with Dirty marks what is clean, and puts it in the dirty queue, where a bulk ask cannot lift it
+-- An ask with Dirty marks what is clean, and puts it in the dirty queue, where a bulk ask cannot
+-- lift it
 unfoldable pub marked_dirty : List Entry
 marked_dirty = goes_on [] (
     render 0 (spot 0 0 0) (Queued 0)
@@ -294,7 +304,8 @@ marked_dirty = goes_on [] (
 unfoldable pub restyled : Plan
 restyled = record (small_plan wide 2) { restyles = 0 ∷ [] }
 
--- The style is changed while a metatile is drawn: it is stored as dirty, in the old style, and the next drawing has the new one
+-- The style is changed while a metatile is drawn: it is stored as dirty, in the old style, and the
+-- next drawing has the new one
 unfoldable pub restyled_while_drawn : List Entry
 restyled_while_drawn = goes_on [] (
     render 0 (spot 0 0 0) (Queued 0)
@@ -315,12 +326,14 @@ restyled_while_drawn = goes_on [] (
 abbrev pub reached : ℕ → Key → Bool
 reached n k = if n == 0 then same_key k (key 4 0 0) else true
 
--- a farm with two updates. Its drawings of tiles to zoom 18 tell the updates that reach the metatile; those of tiles past it, which cannot be served, tell every update
+-- a farm with two updates. Its drawings of tiles to zoom 18 tell the updates that reach the
+-- metatile; those of tiles past it, which cannot be served, tell every update
 unfoldable pub renewed : Plan
 renewed = record (small_plan wide 2) {
   updates = 2;
   reaches = λ known n k. reached n k;
-  drawing = λ map style t known. bytes_of map style t (if nat_lt 18 t.z then known else filter (λ n. reached n (key_of (record { map = Some map; z = t.z; x = t.x; y = t.y }))) known);
+  drawing = λ map style t known. bytes_of map style t (if nat_lt 18 t.z then known else filter
+      (λ n. reached n (key_of (record { map = Some map; z = t.z; x = t.x; y = t.y }))) known);
 }
 
 -- two metatiles are drawn
@@ -335,7 +348,8 @@ two_drawn = goes_on [] (
     ∷ []
     )
 
--- A renew makes the metatile dirty that its update reaches, and leaves the other clean: its tiles are those of the newest data
+-- A renew makes the metatile dirty that its update reaches, and leaves the other clean: its tiles
+-- are those of the newest data
 unfoldable pub renewed_one : List Entry
 renewed_one = goes_on two_drawn (
     Renew 0 (Renewed.Version 1 1)
@@ -353,13 +367,23 @@ renewed_both = goes_on two_drawn (Renew 1 (Renewed.Version 1 2) ∷ [])
 
 -- a farm with updates and a style to change to
 unfoldable pub changing : Plan
-changing = record (small_plan wide 2) { updates = 3; restyles = 0 ∷ []; fault = λ known n. if n == 2 then Some (NoFeature 0 7) else None }
+changing = record (small_plan wide 2) {
+  updates = 3;
+  restyles = 0 ∷ [];
+  fault = λ known n. if n == 2 then Some (NoFeature 0 7) else None;
+}
 
--- what is saved of a farm with one map in its new style, after two updates, with two clean metatiles: one drawn before the updates, one between them
+-- what is saved of a farm with one map in its new style, after two updates, with two clean
+-- metatiles: one drawn before the updates, one between them
 unfoldable pub saved_changes : Saving
-saved_changes = record { styles = Some 0 ∷ []; updates = Past.Update 1 ∷ Past.Renew 0 ∷ []; clean = record { key = key 4 0 8; version = 1 } ∷ record { key = key 4 8 8; version = 0 } ∷ [] }
+saved_changes = record {
+  styles = Some 0 ∷ [];
+  updates = Past.Update 1 ∷ Past.Renew 0 ∷ [];
+  clean = record { key = key 4 0 8; version = 1 } ∷ record { key = key 4 8 8; version = 0 } ∷ [];
+}
 
--- A history of which that is saved. A third metatile is drawn and then expired: it is dirty, and is not saved
+-- A history of which that is saved. A third metatile is drawn and then expired: it is dirty, and is
+-- not saved
 unfoldable pub changed : List Entry
 changed = goes_on [] (
     Restyle 0 (Styled 0)
@@ -378,24 +402,28 @@ changed = goes_on [] (
     ∷ []
     )
 
--- The replay of it: the style; the metatile of version 0; the first update; the metatile of version 1; the second update
+-- The replay of it: the style; the metatile of version 0; the first update; the metatile of version
+-- 1; the second update
 unfoldable pub resumed_changes : List Entry
 resumed_changes = goes_on [] (
     Restyle 0 (Styled 0)
     ∷ Ask replayer Cmd.Bulk (spot 4 8 8) (Queued 0)
     ∷ Claim 0 (Job 0 (key 4 8 8) 0)
     ∷ drawn 0 (Stored true)
-    ∷ Collect replay_front (Collected.Reply (record { conn = replayer; ask = 0; outcome = Outcome.Done }))
+    ∷ Collect replay_front
+    (Collected.Reply (record { conn = replayer; ask = 0; outcome = Outcome.Done }))
     ∷ Update 1 (Updated.Version 1)
     ∷ Ask replayer Cmd.Bulk (spot 4 0 8) (Queued 1)
     ∷ Claim 0 (Job 1 (key 4 0 8) 1)
     ∷ drawn 1 (Stored true)
-    ∷ Collect replay_front (Collected.Reply (record { conn = replayer; ask = 1; outcome = Outcome.Done }))
+    ∷ Collect replay_front
+    (Collected.Reply (record { conn = replayer; ask = 1; outcome = Outcome.Done }))
     ∷ Renew 0 (Renewed.Version 2 0)
     ∷ []
     )
 
--- What the laws speak of: a tile sent as clean, a drawing stored as dirty, an ask answered Done, and a reply Done.
+-- What the laws speak of: a tile sent as clean, a drawing stored as dirty, an ask answered Done,
+-- and a reply Done.
 
 -- whether the entry sends a tile as clean
 abbrev pub is_clean_fetch : Entry → Bool
@@ -419,7 +447,8 @@ is_done_reply _ = false
 
 -- whether a history has one of each
 abbrev pub has_each : List Entry → Bool
-has_each h = list_any is_clean_fetch h && (list_any is_stale_finish h && (list_any is_done_ask h && list_any is_done_reply h))
+has_each h = list_any is_clean_fetch h
+    && (list_any is_stale_finish h && (list_any is_done_ask h && list_any is_done_reply h))
 
 -- A connection with 64 open asks has no more: the 65th is turned away
 unfoldable pub asked_too_often : List Entry

@@ -1,4 +1,5 @@
--- What a plan means for the histories of its farm: the data after updates, what an update reaches, the tiles and metatiles that are drawn, and their paths.
+-- What a plan means for the histories of its farm: the data after updates, what an update reaches,
+-- the tiles and metatiles that are drawn, and their paths.
 use Rattle.std.specs.Prelude.{ℕ, Bool, false, ◌||◌, List, [], ◌++◌, length, map, filter, fold, flat_map, slice_get, Option, Some, None, Result, Ok, Err, unwrap_or}
 use Rattle.std.specs.List.{list_any}
 use Rattle.farm_base.specs.declared.faults.ApplyFault.{ApplyFault}
@@ -51,7 +52,8 @@ features_in layers name = unwrap_or (features_named layers name) []
 abbrev pub names_id : Change → ℕ → Bool
 names_id c id = has_id c.remove id || has_id (ids_of c.put) id
 
--- the features that a change names: the old ones of its layer whose ids it removes or puts, and all that it puts
+-- the features that a change names: the old ones of its layer whose ids it removes or puts, and all
+-- that it puts
 abbrev pub named_by : List Layer → Change → List Feature
 named_by layers c = filter (λ f. names_id c f.id) (features_in layers c.layer) ++ c.put
 
@@ -68,9 +70,11 @@ abbrev pub any_reaches_map : List Feature → Option MapPlan → Meta → Bool
 any_reaches_map features None m = false
 any_reaches_map features (Some mp) m = any_reaches features mp.tile m
 
--- whether update number n, over the data before it, names a feature that reaches the key's metatile square
+-- whether update number n, over the data before it, names a feature that reaches the key's metatile
+-- square
 unfoldable pub reaches_of : FarmPlan → List Layer → ℕ → Key → Bool
-reaches_of plan layers n k = any_reaches_map (named layers (update_of plan n)) (slice_get plan.maps k.map) k.meta
+reaches_of plan layers n k =
+    any_reaches_map (named layers (update_of plan n)) (slice_get plan.maps k.map) k.meta
 
 -- ---- drawings
 
@@ -87,12 +91,15 @@ styled_as plan mp (Some n) = style_or mp.style (slice_get plan.restyles n)
 -- a map's tile in the style of that number, which is the plain drawing; nothing without a map
 abbrev pub tile_in : FarmPlan → Option MapPlan → Option ℕ → Tile → List Layer → List ℕ
 tile_in plan None styled t layers = []
-tile_in plan (Some mp) styled t layers = drawing.drawn_tile (styled_as plan mp styled) mp.tile t layers
+tile_in plan (Some mp) styled t layers =
+    drawing.drawn_tile (styled_as plan mp styled) mp.tile t layers
 
--- a map's metatile in the style of that number: the container of its tiles' plain drawings; nothing without a map
+-- a map's metatile in the style of that number: the container of its tiles' plain drawings; nothing
+-- without a map
 abbrev pub meta_in : FarmPlan → Option MapPlan → Option ℕ → Meta → List Layer → List ℕ
 meta_in plan None styled m layers = []
-meta_in plan (Some mp) styled m layers = container_of m (tiles_of (styled_as plan mp styled) mp.tile m layers)
+meta_in plan (Some mp) styled m layers =
+    container_of m (tiles_of (styled_as plan mp styled) mp.tile m layers)
 
 -- the bytes that are stored of a key, in the style of that number over the data
 abbrev pub container_bytes : FarmPlan → Key → Option ℕ → List Layer → List ℕ
@@ -109,7 +116,9 @@ key_path plan k = path_in (slice_get plan.maps k.map) k.meta
 
 -- ---- the plan of histories
 
--- what of the plan the histories of its farm depend on: each tile is drawn as the plain drawing of its map's style over the data, an update has the first fault of its changes over the data, and it reaches what a feature that it names reaches
+-- what of the plan the histories of its farm depend on: each tile is drawn as the plain drawing of
+-- its map's style over the data, an update has the first fault of its changes over the data, and it
+-- reaches what a feature that it names reaches
 unfoldable pub plan_of : FarmPlan → Plan
 plan_of plan = record {
   max_zooms = map (λ m. m.max_zoom) plan.maps;
@@ -119,5 +128,6 @@ plan_of plan = record {
   restyles = map (λ r. r.map) plan.restyles;
   fault = λ numbers n. fault_in (update_result (update_of plan n) (data_of plan numbers));
   reaches = λ numbers n k. reaches_of plan (data_of plan numbers) n k;
-  drawing = λ m styled t numbers. tile_in plan (slice_get plan.maps m) styled t (data_of plan numbers);
+  drawing =
+      λ m styled t numbers. tile_in plan (slice_get plan.maps m) styled t (data_of plan numbers);
 }

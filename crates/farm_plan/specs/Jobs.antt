@@ -10,7 +10,9 @@ use Rattle.farm_history.specs.Past.{data_after, version, style_after, Flight, fl
 use Rattle.farm_plan.specs.Plans.{MapPlan, FarmPlan}
 use Rattle.farm_plan.specs.Drawings.{styled_as, plan_of, data_of, container_bytes}
 
--- A job: its ticket, the worker that claimed it, the map and the metatile, how many pixels a tile has side by side, the data version, the number of the map's style, and the plan and the data that it shares with the farm.
+-- A job: its ticket, the worker that claimed it, the map and the metatile, how many pixels a tile
+-- has side by side, the data version, the number of the map's style, and the plan and the data that
+-- it shares with the farm.
 pub record JobSeen : Type 0 where
   pub ticket : ℕ
   pub worker : ℕ
@@ -28,13 +30,15 @@ job_key job = record { map = job.map; meta = job.meta }
 
 -- the style that it draws in
 abbrev pub job_style : JobSeen → Option MapStyle
-job_style job = option_map (λ mp. styled_as job.plan mp job.styled) (slice_get job.plan.maps job.map)
+job_style job =
+    option_map (λ mp. styled_as job.plan mp job.styled) (slice_get job.plan.maps job.map)
 
 -- the container of what it draws, in the job's own terms
 abbrev pub job_text : JobSeen → List ℕ
 job_text job = container_bytes job.plan (job_key job) job.styled job.data_now
 
--- a job that can be drawn: its map is one of its plan, its tile that map's, a size that is drawn, and its metatile is one
+-- a job that can be drawn: its map is one of its plan, its tile that map's, a size that is drawn,
+-- and its metatile is one
 pub record IsValidJob (job : JobSeen) : Type 0 where
   pub map : MapPlan
   pub is_map : slice_get job.plan.maps job.map ≡ Some map

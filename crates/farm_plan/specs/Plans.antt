@@ -21,7 +21,8 @@ pub record Restyle : Type 0 where
   pub map : ℕ
   pub style : MapStyle
 
--- a plan: its maps, the data to begin with, the updates that may come, how many workers draw, how many metatiles may wait in each queue, and the styles that may come
+-- a plan: its maps, the data to begin with, the updates that may come, how many workers draw, how
+-- many metatiles may wait in each queue, and the styles that may come
 pub record FarmPlan : Type 0 where
   pub maps : List MapPlan
   pub dataset : List Layer
@@ -34,7 +35,8 @@ pub record FarmPlan : Type 0 where
 abbrev pub maps_in : FarmPlan → List ℕ → Option ℕ
 maps_in plan name = position (λ m. bytes_eq m.name name) plan.maps
 
--- a map has a name of the bytes that may stand in a path, tiles of one of the six sizes, and zooms to 18 at most
+-- a map has a name of the bytes that may stand in a path, tiles of one of the six sizes, and zooms
+-- to 18 at most
 pub record IsMapPlan (m : MapPlan) : Type 0 where
   pub named : IsName m.name
   pub sized : IsTileSize m.tile
@@ -42,13 +44,15 @@ pub record IsMapPlan (m : MapPlan) : Type 0 where
 
 -- no two maps have one name
 abbrev pub HasNamesApart : List MapPlan → Type 0
-HasNamesApart maps = (i j : ℕ) (a b : MapPlan) → slice_get maps i ≡ Some a → slice_get maps j ≡ Some b → a.name ≡ b.name → i ≡ j
+HasNamesApart maps = (i j : ℕ) (a b : MapPlan) → slice_get maps i ≡ Some a
+    → slice_get maps j ≡ Some b → a.name ≡ b.name → i ≡ j
 
 -- a restyle names a map of the plan
 abbrev pub NamesMap : List MapPlan → Restyle → Type 0
 NamesMap maps r = r.map < length maps
 
--- a plan that a farm may be started with: 1 to 16 maps with names apart, 1 to 16 workers, its limits, and at most 256 updates and styles that may come, each style of a map of the plan
+-- a plan that a farm may be started with: 1 to 16 maps with names apart, 1 to 16 workers, its
+-- limits, and at most 256 updates and styles that may come, each style of a map of the plan
 pub record IsPlan (plan : FarmPlan) : Type 0 where
   pub count_maps : IsFrom1 (length plan.maps) 16
   pub each_map : All IsMapPlan plan.maps
@@ -63,7 +67,8 @@ pub record IsPlan (plan : FarmPlan) : Type 0 where
 abbrev pub IsRanged : MapStyle → Type 0
 IsRanged style = All KeepsRanges style.styles
 
--- the symbolizers of all styles of the plan keep their ranges, those of the maps and those that may come
+-- the symbolizers of all styles of the plan keep their ranges, those of the maps and those that may
+-- come
 pub record AreRanged (plan : FarmPlan) : Type 0 where
   pub maps : All (λ m. IsRanged m.style) plan.maps
   pub restyles : All (λ r. IsRanged r.style) plan.restyles

@@ -27,7 +27,12 @@ impl Model for MapPlan {
 
     ghost coded = { Prim.hlevel (codes, filter_code) };
 
-    ghost view = { λ m. record { name = m.name.bytes; style = m.style; tile = m.tile; max_zoom = m.max_zoom } };
+    ghost view = { λ m. record {
+      name = m.name.bytes;
+      style = m.style;
+      tile = m.tile;
+      max_zoom = m.max_zoom;
+    } };
 }
 
 /// A style that a map may be given later: the map, by its place in the plan, and the style.

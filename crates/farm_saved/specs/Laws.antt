@@ -33,4 +33,5 @@ ReadsBack = (s : Saving) → IsSaving s → HasNumbers s → saved_in (saved_byt
 abbrev pub Resumes : Type 0
 Resumes =
     (plan : FarmPlan) (store_tells : Bool) (h : List Entry) (s : Saving)
-    → IsPlan plan → Legal (plan_of plan) store_tells h → IsSaved (plan_of plan) h s → IsResumed (plan_of plan) h (replay (plan_of plan) s)
+    → IsPlan plan → Legal (plan_of plan) store_tells h → IsSaved (plan_of plan) h s
+    → IsResumed (plan_of plan) h (replay (plan_of plan) s)

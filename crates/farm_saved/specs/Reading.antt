@@ -1,5 +1,6 @@
--- What the bytes of a saved text say, field by field: the value, or the first fault. A line is a step; each
--- field leaves the bytes behind it to the next. Where a field is cut short the fault has the length of all bytes.
+-- What the bytes of a saved text say, field by field: the value, or the first fault. A line is a
+-- step; each field leaves the bytes behind it to the next. Where a field is cut short the fault has
+-- the length of all bytes.
 use Rattle.std.specs.Prelude.{ℕ, zero, suc, ◌-◌, ◌==◌, ◌&&◌, Bool, true, nat_le, if◌then◌else◌, List, [], ◌∷◌, ◌++◌, length, take, drop, codes, Option, Some, None, Result, Ok, Err, slice_get}
 use Rattle.std.specs.Str.{bytes_eq}
 use Rattle.byteorder.specs.Endian.{little_number}
@@ -14,16 +15,21 @@ use Rattle.farm_saved.specs.declared.fault.SavedFault.TheVariants.{Short, Magic,
 
 -- all saved texts begin with these bytes
 unfoldable pub after_magic : SavedFault → List ℕ → Result (List ℕ) SavedFault
-after_magic short bytes = check (nat_le 4 (length bytes)) short >>= λ u. check (bytes_eq (take 4 bytes) (codes "FSV1")) Magic >>= λ u. Ok (drop 4 bytes)
+after_magic short bytes = check (nat_le 4 (length bytes))
+    short >>= λ u. check (bytes_eq (take 4 bytes) (codes "FSV1")) Magic >>= λ u. Ok (drop 4 bytes)
 
 -- a number of so many bytes, and the bytes behind it
 unfoldable pub bytes_number : SavedFault → ℕ → List ℕ → Result (ℕ × List ℕ) SavedFault
-bytes_number short n bytes = if nat_le n (length bytes) then Ok (little_number n bytes, drop n bytes) else Err short
+bytes_number short n bytes =
+    if nat_le n (length bytes) then Ok (little_number n bytes, drop n bytes) else Err short
 
--- so many items one after another, behind those that were read before; each is read with those before it
-unfoldable pub many : {A : Type 0} → (List A → List ℕ → Result (A × List ℕ) SavedFault) → ℕ → List A → List ℕ → Result (List A × List ℕ) SavedFault
+-- so many items one after another, behind those that were read before; each is read with those
+-- before it
+unfoldable pub many : {A : Type 0} → (List A → List ℕ → Result (A × List ℕ) SavedFault) → ℕ → List A
+    → List ℕ → Result (List A × List ℕ) SavedFault
 many read zero before bytes = Ok (before, bytes)
-many read (suc n) before bytes = read before bytes >>= λ item. many read n (before ++ item.0 ∷ []) item.1
+many read (suc n) before bytes =
+    read before bytes >>= λ item. many read n (before ++ item.0 ∷ []) item.1
 
 -- the style that a map's number says
 abbrev pub style_if_any : ℕ → Option ℕ
@@ -31,8 +37,10 @@ style_if_any zero = None
 style_if_any (suc n) = Some n
 
 -- a map
-unfoldable pub style_number_in : SavedFault → List (Option ℕ) → List ℕ → Result (Option ℕ × List ℕ) SavedFault
-style_number_in short before bytes = bytes_number short 4 bytes >>= λ number. Ok (style_if_any number.0, number.1)
+unfoldable pub style_number_in : SavedFault → List (Option ℕ) → List ℕ
+    → Result (Option ℕ × List ℕ) SavedFault
+style_number_in short before bytes =
+    bytes_number short 4 bytes >>= λ number. Ok (style_if_any number.0, number.1)
 
 -- an update: its kind, 0 for an update and 1 for one that expired what it reaches, and its number
 unfoldable pub past_in : SavedFault → List Past → List ℕ → Result (Past × List ℕ) SavedFault
@@ -47,9 +55,11 @@ abbrev pub is_behind : Option Kept → Key → Bool
 is_behind None k = true
 is_behind (Some last) k = key_before last.key k
 
--- an entry may stand behind those before it: it is of a metatile, its version is at most the number of updates, and its key comes behind theirs
+-- an entry may stand behind those before it: it is of a metatile, its version is at most the number
+-- of updates, and its key comes behind theirs
 unfoldable pub is_kept : ℕ → List Kept → Kept → Bool
-is_kept updates before k = is_meta k.key.meta && nat_le k.version updates && is_behind (slice_get before (length before - 1)) k.key
+is_kept updates before k = is_meta k.key.meta && nat_le k.version updates
+    && is_behind (slice_get before (length before - 1)) k.key
 
 -- the fields of a clean entry: map, zoom, column, row and version
 unfoldable pub fields_in : SavedFault → List ℕ → Result (Kept × List ℕ) SavedFault
@@ -59,7 +69,13 @@ fields_in short bytes = do
   x ← bytes_number short 4 z.1
   y ← bytes_number short 4 x.1
   version ← bytes_number short 8 y.1
-  Ok (record { key = record { map = map.0; meta = record { z = z.0; x = x.0; y = y.0 } }; version = version.0 }, version.1)
+  Ok (
+    record {
+      key = record { map = map.0; meta = record { z = z.0; x = x.0; y = y.0 } };
+      version = version.0;
+    },
+    version.1,
+  )
 
 -- a clean entry of a farm with so many updates, which is judged after all its fields
 unfoldable pub entry_in : SavedFault → ℕ → List Kept → List ℕ → Result (Kept × List ℕ) SavedFault

@@ -19,7 +19,8 @@ pub record IsClean (updates : ℕ) (clean : List Kept) : Type 0 where
   pub rise : are_rising clean ≡ true
   pub kept : All (IsKept updates) clean
 
--- what is saved is sound: fewer than 2^32 maps, whose style numbers fit, and clean entries that may stand beside so many updates
+-- what is saved is sound: fewer than 2^32 maps, whose style numbers fit, and clean entries that may
+-- stand beside so many updates
 pub record IsSaving (s : Saving) : Type 0 where
   pub few_styles : length s.styles < 2 ^ 32
   pub styles_fit : All StyleFits s.styles

@@ -1,4 +1,5 @@
--- The text of what is saved. Numbers are little-endian, of four bytes or, where it is said, of eight.
+-- The text of what is saved. Numbers are little-endian, of four bytes or, where it is said, of
+-- eight.
 use Rattle.std.specs.Prelude.{ℕ, ◌+◌, List, ◌++◌, length, codes, Option, Some, None}
 use Rattle.std.specs.List.{flat_map}
 use Rattle.byteorder.specs.Endian.{little_bytes}
@@ -18,9 +19,11 @@ past_bytes (Past.Renew n) = little_bytes 4 1 ++ little_bytes 4 n
 
 -- a clean entry: map, zoom, column, row, and its version in eight bytes
 abbrev pub kept_bytes : Kept → List ℕ
-kept_bytes k = little_bytes 4 k.key.map ++ little_bytes 4 k.key.meta.z ++ little_bytes 4 k.key.meta.x ++ little_bytes 4 k.key.meta.y ++ little_bytes 8 k.version
+kept_bytes k = little_bytes 4 k.key.map ++ little_bytes 4 k.key.meta.z
+    ++ little_bytes 4 k.key.meta.x ++ little_bytes 4 k.key.meta.y ++ little_bytes 8 k.version
 
--- the bytes `FSV1`; the number of maps and each; the number of updates, in eight bytes, and each; the number of clean entries, in eight bytes, and each
+-- the bytes `FSV1`; the number of maps and each; the number of updates, in eight bytes, and each;
+-- the number of clean entries, in eight bytes, and each
 unfoldable pub saved_bytes : Saving → List ℕ
 saved_bytes s =
     codes "FSV1"

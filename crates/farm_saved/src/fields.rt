@@ -61,7 +61,8 @@ fn style_of(number: u32) -> Option<u32>
 /// A map: the number of its last style, if it has one.
 #[tactic(auto, unfolding(crate::specs::Reading::style_number_in))]
 pub fn style(bytes: &[u8], short: SavedFault) -> Result<(Option<u32>, &[u8]), SavedFault>
-    ensures value { (before : List (Option ℕ)) → seen (λ p. (p.0, p.1.now)) result ≡ spec.style_number_in short before bytes.entry.now }
+    ensures value { (before : List (Option ℕ))
+        → seen (λ p. (p.0, p.1.now)) result ≡ spec.style_number_in short before bytes.entry.now }
     ensures fits { IfOk result (λ p. StyleFits p.0) }
     ensures left { IfOk result (λ p. length p.1.now + 4 ≡ length bytes.entry.now) }
 {
@@ -76,7 +77,8 @@ pub fn past<'a>(
     before: &[Past],
     short: SavedFault,
 ) -> Result<(Past, &'a [u8]), SavedFault>
-    ensures value { seen (λ p. (p.0, p.1.now)) result ≡ spec.past_in short before.now bytes.entry.now }
+    ensures value { seen (λ p. (p.0, p.1.now)) result
+        ≡ spec.past_in short before.now bytes.entry.now }
     ensures left { IfOk result (λ p. length p.1.now + 8 ≡ length bytes.entry.now) }
 {
     let (kind, rest) = number(bytes, short)?;
@@ -146,7 +148,8 @@ pub fn entry<'a>(
     before: &[Kept],
     short: SavedFault,
 ) -> Result<(Kept, &'a [u8]), SavedFault>
-    ensures value { seen (λ p. (p.0, p.1.now)) result ≡ spec.entry_in short updates before.now bytes.entry.now }
+    ensures value { seen (λ p. (p.0, p.1.now)) result
+        ≡ spec.entry_in short updates before.now bytes.entry.now }
     ensures kept { IfOk result (λ p. IsTrue (spec.is_kept updates before.now p.0)) }
     ensures left { IfOk result (λ p. length p.1.now + 24 ≡ length bytes.entry.now) }
 {

@@ -18,7 +18,8 @@ pub fn styles(
     bytes: &[u8],
     short: SavedFault,
 ) -> Result<(Vec<Option<u32>>, &[u8]), SavedFault>
-    ensures value { Gives fault.NoMemory (λ p. (p.0.items, p.1.now)) (spec.many (spec.style_number_in short) count [] bytes.entry.now) result }
+    ensures value { Gives fault.NoMemory (λ p. (p.0.items, p.1.now))
+        (spec.many (spec.style_number_in short) count [] bytes.entry.now) result }
     ensures fit { IfOk result (λ p. All StyleFits p.0.items) }
     ensures count { IfOk result (λ p. length p.0.items ≡ count) }
     ensures left { IfOk result (λ p. length p.1.now ≤ length bytes.entry.now) }
@@ -44,8 +45,10 @@ pub fn updates(
     bytes: &[u8],
     short: SavedFault,
 ) -> Result<(Vec<Past>, &[u8]), SavedFault>
-    ensures value { Gives fault.NoMemory (λ p. (p.0.items, p.1.now)) (spec.many (spec.past_in short) count [] bytes.entry.now) result }
-    ensures left { IfOk result (λ p. length p.1.now + 8 * length p.0.items ≤ length bytes.entry.now) }
+    ensures value { Gives fault.NoMemory (λ p. (p.0.items, p.1.now))
+        (spec.many (spec.past_in short) count [] bytes.entry.now) result }
+    ensures left { IfOk result
+        (λ p. length p.1.now + 8 * length p.0.items ≤ length bytes.entry.now) }
 {
     let mut updates = Vec::new(alloc);
     let mut rest = bytes;
@@ -69,9 +72,11 @@ pub fn clean(
     bytes: &[u8],
     short: SavedFault,
 ) -> Result<(Vec<Kept>, &[u8]), SavedFault>
-    ensures value { Gives fault.NoMemory (λ p. (p.0.items, p.1.now)) (spec.many (spec.entry_in short updates) count [] bytes.entry.now) result }
+    ensures value { Gives fault.NoMemory (λ p. (p.0.items, p.1.now))
+        (spec.many (spec.entry_in short updates) count [] bytes.entry.now) result }
     ensures sound { IfOk result (λ p. IsClean updates p.0.items) }
-    ensures left { IfOk result (λ p. length p.1.now + 24 * length p.0.items ≤ length bytes.entry.now) }
+    ensures left { IfOk result
+        (λ p. length p.1.now + 24 * length p.0.items ≤ length bytes.entry.now) }
 {
     let mut clean = Vec::new(alloc);
     let mut rest = bytes;

@@ -27,7 +27,8 @@ fn ended(all: u64, rest: &[u8]) -> Result<(), SavedFault>
 fn saved(alloc: Global, bytes: &[u8]) -> Result<Saved, SavedFault>
     ensures value { Gives fault.NoMemory (λ s. s) (spec.saved_in bytes.now) result }
     ensures sound { IfOk result (λ s. IsSaving s) }
-    ensures room { IfOk result (λ s. 8 * length s.updates + 24 * length s.clean ≤ length bytes.now) }
+    ensures room { IfOk result
+        (λ s. 8 * length s.updates + 24 * length s.clean ≤ length bytes.now) }
 {
     let all = bytes.len() as u64;
     let short = SavedFault::Short(all);

@@ -36,8 +36,10 @@ fn tile_size(text: &str) -> Option<u32>
 }
 
 fn spelled_tile(z: &str, x: &str, y: &str) -> Option<Tile>
-    ensures some { IfSome result (λ t. (z.now ≡ decimal t.z) × (x.now ≡ decimal t.x) × (y.now ≡ decimal t.y) × IsTile t) }
-    ensures every { (t : Tile) → IsTile t → z.now ≡ decimal t.z → x.now ≡ decimal t.x → y.now ≡ decimal t.y → result ≡ Some t }
+    ensures some { IfSome result
+        (λ t. (z.now ≡ decimal t.z) × (x.now ≡ decimal t.x) × (y.now ≡ decimal t.y) × IsTile t) }
+    ensures every { (t : Tile) → IsTile t → z.now ≡ decimal t.z → x.now ≡ decimal t.x
+        → y.now ≡ decimal t.y → result ≡ Some t }
 {
     match (small_number(z), small_number(x), small_number(y)) {
         (Some(z), Some(x), Some(y)) => tile(z, x, y),

@@ -16,8 +16,10 @@ use std::alloc::{AllocError, Global};
 /// `meta FILE`. The words are without the program's name. Refused exactly where clap refuses them or
 /// they are none of these; where no word is empty or begins with `-`, clap gives the words themselves.
 pub fn read_words(alloc: Global, words: &[String]) -> Result<Command, WordsFault>
-    ensures plain { ArePlain (map string_bytes words.now) → Answers (map string_bytes words.now) result }
-    ensures given { (values : List (List ℕ)) → values_of (map string_bytes words.now) ≡ Some values → Answers values result }
+    ensures plain { ArePlain (map string_bytes words.now)
+        → Answers (map string_bytes words.now) result }
+    ensures given { (values : List (List ℕ)) → values_of (map string_bytes words.now) ≡ Some values
+        → Answers values result }
     ensures none { values_of (map string_bytes words.now) ≡ None → IsRefused result }
 {
     read_values(alloc, words)
@@ -25,7 +27,8 @@ pub fn read_words(alloc: Global, words: &[String]) -> Result<Command, WordsFault
 
 // The same, without the law on plain words.
 fn read_values(alloc: Global, words: &[String]) -> Result<Command, WordsFault>
-    ensures given { (values : List (List ℕ)) → values_of (map string_bytes words.now) ≡ Some values → Answers values result }
+    ensures given { (values : List (List ℕ)) → values_of (map string_bytes words.now) ≡ Some values
+        → Answers values result }
     ensures none { values_of (map string_bytes words.now) ≡ None → IsRefused result }
 {
     let values = values(alloc, words)?;
@@ -33,8 +36,10 @@ fn read_values(alloc: Global, words: &[String]) -> Result<Command, WordsFault>
 }
 
 fn values<'a>(alloc: Global, words: &'a [String]) -> Result<Vec<&'a str>, WordsFault>
-    ensures ok { IfOk result (λ v. values_of (map string_bytes words.entry.now) ≡ Some (map (λ s. s.now) v.items)) }
-    ensures refused { result ≡ Err WordsFault.Refused → values_of (map string_bytes words.entry.now) ≡ None }
+    ensures ok { IfOk result
+        (λ v. values_of (map string_bytes words.entry.now) ≡ Some (map (λ s. s.now) v.items)) }
+    ensures refused { result ≡ Err WordsFault.Refused
+        → values_of (map string_bytes words.entry.now) ≡ None }
 {
     match matched(alloc, words) {
         Ok(matches) => gathered(alloc, &matches),
@@ -43,7 +48,8 @@ fn values<'a>(alloc: Global, words: &'a [String]) -> Result<Vec<&'a str>, WordsF
 }
 
 fn gathered<'a>(alloc: Global, matches: &ArgMatches<'a>) -> Result<Vec<&'a str>, WordsFault>
-    ensures ok { IfOk result (λ v. map (λ s. s.now) v.items ≡ unwrap_or (all_of (codes "words") (rows_of (found_of matches.entry.now))) []) }
+    ensures ok { IfOk result (λ v. map (λ s. s.now) v.items
+        ≡ unwrap_or (all_of (codes "words") (rows_of (found_of matches.entry.now))) []) }
     ensures memory { result ≡ Err WordsFault.Refused → ⊥ }
 {
     let mut values = Vec::new(alloc);
@@ -66,7 +72,8 @@ fn farm_command<'a>(alloc: Global) -> Result<clap::Command<'a>, AllocError>
 fn matched<'a>(alloc: Global, words: &'a [String]) -> Result<ArgMatches<'a>, WordsFault>
     ensures ok { IfOk result (λ m. (fault_of farm_app (map string_bytes words.entry.now) ≡ [])
         × (rows_of (found_of m) ≡ matches_of farm_app (map string_bytes words.entry.now))) }
-    ensures refused { result ≡ Err WordsFault.Refused → fault_of farm_app (map string_bytes words.entry.now) ≢ [] }
+    ensures refused { result ≡ Err WordsFault.Refused
+        → fault_of farm_app (map string_bytes words.entry.now) ≢ [] }
 {
     let command = farm_command(alloc)?;
     match command.try_get_matches_from(words) {

@@ -11,7 +11,8 @@ use Rattle.reading.specs.Steps.{◌>>=◌, check}
 use Rattle.reading.specs.Values.{signed}
 use Rattle.geo_json.specs.declared.faults.DataFault.{DataFault}
 
--- the value of an attribute: null, a truth value, a whole number of 64 bits with a sign, or a string
+-- the value of an attribute: null, a truth value, a whole number of 64 bits with a sign, or a
+-- string
 abbrev pub attr_value : DataFault → Data → Result Value DataFault
 attr_value shape null = Ok Null
 attr_value shape (boolean b) = Ok (Truth b)
@@ -27,10 +28,12 @@ attr_of shape key d = do
   v ← attr_value shape d
   Ok (record { name = key; value = v })
 
--- the attributes of an object after those before: a JSON object has its members in byte order of their keys
+-- the attributes of an object after those before: a JSON object has its members in byte order of
+-- their keys
 unfoldable pub attrs_after : DataFault → List Attr → Members → Result (List Attr) DataFault
 attrs_after shape before no_members = Ok before
-attrs_after shape before (member key d others) = attr_of shape key d >>= λ a. attrs_after shape (before ++ a ∷ []) others
+attrs_after shape before (member key d others) =
+    attr_of shape key d >>= λ a. attrs_after shape (before ++ a ∷ []) others
 
 -- all attributes of a JSON object; any other value is a fault
 unfoldable pub attrs_of : DataFault → Data → Result (List Attr) DataFault

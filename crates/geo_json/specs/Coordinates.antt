@@ -13,13 +13,16 @@ use Rattle.geo_json.specs.declared.coordinates.Units.TheVariants.{Centimetres, W
 
 -- the units of a name
 abbrev pub units_named : DataFault → List ℕ → Result Units DataFault
-units_named shape name = if bytes_eq name (codes "cm") then Ok Centimetres else (if bytes_eq name (codes "world") then Ok World else Err shape)
+units_named shape name = if bytes_eq name (codes "cm") then Ok Centimetres
+    else (if bytes_eq name (codes "world") then Ok World else Err shape)
 
 -- the key `units` is `cm` or `world`, and `cm` where it is absent
 abbrev pub units_at : DataFault → Data → Result Units DataFault
-units_at shape d = or_value Centimetres (λ u. text shape u >>= units_named shape) (get (codes "units") d)
+units_at shape d =
+    or_value Centimetres (λ u. text shape u >>= units_named shape) (get (codes "units") d)
 
--- a coordinate that no point of the world has: it stands for all that lies outside of the world, and its feature is refused in its turn
+-- a coordinate that no point of the world has: it stands for all that lies outside of the world,
+-- and its feature is refused in its turn
 abbrev pub outside : ℕ
 outside = 2 ^ 30 + 1
 
@@ -37,7 +40,8 @@ coordinate from_cm World c = in_world c
 abbrev pub pair_of : Units → DataFault → Items → Result Point DataFault
 pair_of units shape no_items = Err shape
 pair_of units shape (item x no_items) = Err shape
-pair_of units shape (item x (item y no_items)) = signed shape x >>= λ a. signed shape y >>= λ b. Ok (record { x = coordinate x_from_cm units a; y = coordinate y_from_cm units b })
+pair_of units shape (item x (item y no_items)) = signed shape x >>= λ a. signed shape y >>= λ b. Ok
+    (record { x = coordinate x_from_cm units a; y = coordinate y_from_cm units b })
 pair_of units shape (item x (item y (item z ds))) = Err shape
 
 -- a point as a JSON value: a list of its two coordinates

@@ -21,8 +21,8 @@ use Rattle.geo_json.specs.declared.faults.DataFault.TheVariants.{NotJson, Shape,
 use Rattle.geo_json.specs.declared.coordinates.Units.{Units}
 use Rattle.plain_shapes.specs.Limits.{most_data_layers, most_features}
 
--- a layer at its place after those before it: its own keys, its name among the earlier ones, how many features it has,
--- and then each feature; there is no layer after 64
+-- a layer at its place after those before it: its own keys, its name among the earlier ones, how
+-- many features it has, and then each feature; there is no layer after 64
 unfoldable pub layer_said : Units → ℕ → List Layer → Data → Result Layer DataFault
 layer_said units part before d = do
   u ← check (nat_lt part most_data_layers) (Shape most_data_layers 0)

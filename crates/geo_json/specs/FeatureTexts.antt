@@ -1,4 +1,5 @@
--- Features as JSON values. The part is the place of their layer or change, the item their place in its list.
+-- Features as JSON values. The part is the place of their layer or change, the item their place in
+-- its list.
 use Rattle.std.specs.Prelude.{ℕ, ◌^◌, ◌-◌, Bool, not, nat_lt, List, [], ◌∷◌, length, codes, Result, Ok}
 use Rattle.std.specs.List.{list_any}
 use Rattle.serde_json.specs.Data.{Data}
@@ -21,8 +22,8 @@ use Rattle.plain_shapes.specs.Limits.{most_points, most_attrs}
 unfoldable pub id_of : DataFault → Data → Result ℕ DataFault
 id_of shape d = whole_number shape shape 0 (2 ^ 64 - 1) d
 
--- A feature by its id, its shape and its attributes, and then what these parts have to keep. The keys of an object are
--- distinct, so no two attributes have one name.
+-- A feature by its id, its shape and its attributes, and then what these parts have to keep. The
+-- keys of an object are distinct, so no two attributes have one name.
 unfoldable pub feature_of : Units → ℕ → ℕ → Data → Result Feature DataFault
 feature_of units part place d = do
   u ← object_of (Shape part place) (codes "id" ∷ codes "geometry" ∷ codes "attrs" ∷ []) d

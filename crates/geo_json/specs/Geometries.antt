@@ -15,15 +15,19 @@ use Rattle.geo_json.specs.declared.coordinates.Units.{Units}
 
 -- a list of points
 unfoldable pub path_points : Units → DataFault → Data → Result (List Point) DataFault
-path_points units shape d = list shape d >>= λ items. list_of (λ before p. point_of units shape p) items
+path_points units shape d =
+    list shape d >>= λ items. list_of (λ before p. point_of units shape p) items
 
 -- a list of lines, or of rings
 unfoldable pub paths_of : Units → DataFault → Data → Result (List (List Point)) DataFault
-paths_of units shape d = list shape d >>= λ items. list_of (λ before p. path_points units shape p) items
+paths_of units shape d =
+    list shape d >>= λ items. list_of (λ before p. path_points units shape p) items
 
 -- the values at the three keys a shape may have: exactly one of them is there
-abbrev pub one_shape : Units → DataFault → Option Data → Option Data → Option Data → Result Geometry DataFault
-one_shape units shape (Some d) None None = path_points units shape d >>= λ points. Ok (Points points)
+abbrev pub one_shape : Units → DataFault → Option Data → Option Data → Option Data
+    → Result Geometry DataFault
+one_shape units shape (Some d) None None =
+    path_points units shape d >>= λ points. Ok (Points points)
 one_shape units shape None (Some d) None = paths_of units shape d >>= λ lines. Ok (Lines lines)
 one_shape units shape None None (Some d) = paths_of units shape d >>= λ rings. Ok (Polygon rings)
 one_shape units shape _ _ _ = Err shape

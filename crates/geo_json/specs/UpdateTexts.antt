@@ -21,7 +21,8 @@ use Rattle.plain_shapes.specs.Limits.{most_features}
 unfoldable pub ids_in : DataFault → Data → Result (List ℕ) DataFault
 ids_in shape d = list shape d >>= λ items. list_of (λ before id. id_of shape id) items
 
--- a change at its place: its own keys, how many puts it has, and then each feature; there is no change after 1,000,000
+-- a change at its place: its own keys, how many puts it has, and then each feature; there is no
+-- change after 1,000,000
 unfoldable pub change_at : Units → ℕ → Data → Result Change DataFault
 change_at units part d = do
   u ← check (nat_lt part most_features) (Shape most_features 0)
@@ -35,7 +36,8 @@ change_at units part d = do
 
 -- what holds of a change that was read after those before it
 abbrev pub is_read : List Change → Change → Bool
-is_read before c = nat_lt (length before) most_features && is_name c.layer && nat_le (length c.put) most_features
+is_read before c =
+    nat_lt (length before) most_features && is_name c.layer && nat_le (length c.put) most_features
 
 -- an update by its units and changes
 unfoldable pub changes_of : Data → Result (List Change) DataFault

@@ -29,7 +29,8 @@ fn attr_value(alloc: Global, value: &Value, shape: DataFault) -> Result<farm_bas
 
 #[tactic(auto, unfolding(crate::specs::Attributes::attr_of))]
 fn attr(alloc: Global, key: &str, value: &Value, shape: DataFault) -> Result<Attr, DataFault>
-    ensures value { Gives fault.NoMemory (λ a. a) (spec.attr_of shape key.now (view value.now)) result }
+    ensures value { Gives fault.NoMemory (λ a. a)
+        (spec.attr_of shape key.now (view value.now)) result }
     ensures named { IfOk result (λ a. a.name ≡ key.now) }
 {
     if !is_name(key) {
@@ -47,7 +48,8 @@ fn attrs(
     members: &Map<String, Value>,
     shape: DataFault,
 ) -> Result<Vec<Attr>, DataFault>
-    ensures value { Gives fault.NoMemory (λ v. v.items) (spec.attrs_after shape [] (members_view members.now.entries)) result }
+    ensures value { Gives fault.NoMemory (λ v. v.items)
+        (spec.attrs_after shape [] (members_view members.now.entries)) result }
     ensures apart { IfOk result (λ v. has_double_name v.items ≡ false) }
 {
     let mut attrs = Vec::new(alloc);
@@ -62,7 +64,8 @@ fn attrs(
 
 #[tactic(auto, unfolding(crate::specs::Attributes::attrs_of))]
 fn attrs_of(alloc: Global, value: &Value, shape: DataFault) -> Result<Vec<Attr>, DataFault>
-    ensures value { Gives fault.NoMemory (λ v. v.items) (spec.attrs_of shape (view value.now)) result }
+    ensures value { Gives fault.NoMemory (λ v. v.items)
+        (spec.attrs_of shape (view value.now)) result }
     ensures apart { IfOk result (λ v. has_double_name v.items ≡ false) }
 {
     match value.as_object() {

@@ -55,7 +55,8 @@ pub(crate) fn are_same(a: Units, b: Units) -> bool
 /// The next value as units.
 pub(crate) fn units_from(reader: &mut Reader<'_>) -> Option<Units>
     ensures value { IfSome result (λ u. (name : List ℕ)
-        × ((depth : ℕ) → converted of_json (value depth reader.old) ≡ Some (string name, reader.new))
+        × ((depth : ℕ)
+        → converted of_json (value depth reader.old) ≡ Some (string name, reader.new))
         × (spec.units_named (Shape 0 0) name ≡ Ok u)) }
     ensures shorter { OnSome result (length reader.new < length reader.old) }
 {

@@ -78,7 +78,8 @@ fn layers_in(alloc: Global, object: &Value) -> Result<Vec<Layer>, DataFault>
 fn layers(alloc: Global, units: Units, items: &[Value]) -> Result<Vec<Layer>, DataFault>
     requires { length items.now < 2 ^ 64 }
     ensures value { Gives fault.NoMemory (λ v. v.items)
-        (list_of (λ before e. spec.layer_said units (length before) before e) (items_view items.now)) result }
+        (list_of (λ before e. spec.layer_said units (length before) before e)
+        (items_view items.now)) result }
     ensures valid { IfOk result (λ v. IsTrue (each_after spec.is_read [] v.items)) }
 {
     read_list(alloc, &LayerItems { units }, items)

@@ -52,7 +52,8 @@ fn geometry_at(
     object: &Value,
     shape: DataFault,
 ) -> Result<Geometry, DataFault>
-    ensures { Gives fault.NoMemory (λ g. g) (needed shape (geometry_of units shape) (get (codes "geometry") (view object.now))) result }
+    ensures { Gives fault.NoMemory (λ g. g)
+        (needed shape (geometry_of units shape) (get (codes "geometry") (view object.now))) result }
 {
     match object.get("geometry") {
         Some(value) => geometry(alloc, units, value, shape),
@@ -107,7 +108,8 @@ pub(crate) fn feature(
     place: u32,
     object: &Value,
 ) -> Result<Feature, DataFault>
-    ensures { Gives fault.NoMemory (λ f. f) (spec.feature_of units part place (view object.now)) result }
+    ensures { Gives fault.NoMemory (λ f. f)
+        (spec.feature_of units part place (view object.now)) result }
 {
     let shape = DataFault::Shape(part, place);
     open_feature(object, shape)?;
@@ -134,7 +136,8 @@ pub(crate) fn new_feature(
 ) -> Result<Feature, DataFault>
     requires place { length before.now < most_features }
     requires known { KnowsIds known.old before.now }
-    ensures value { Gives fault.NoMemory (λ f. f) (spec.new_feature_after units part before.now (view object.now)) result }
+    ensures value { Gives fault.NoMemory (λ f. f)
+        (spec.new_feature_after units part before.now (view object.now)) result }
     ensures apart { IfOk result (λ f. IsTrue (spec.is_new before.now f)) }
     ensures known { IfOk result (λ f. KnowsIds known.new (before.now ++ f ∷ [])) }
 {
@@ -159,7 +162,8 @@ pub(crate) fn features(
     items: &[Value],
 ) -> Result<Vec<Feature>, DataFault>
     requires { length items.now ≤ most_features }
-    ensures value { Gives fault.NoMemory (λ v. v.items) (list_of (spec.feature_after units part) (items_view items.now)) result }
+    ensures value { Gives fault.NoMemory (λ v. v.items)
+        (list_of (spec.feature_after units part) (items_view items.now)) result }
     ensures few { IfOk result (λ v. length v.items ≤ most_features) }
 {
     read_list(alloc, &FeatureItems { units, part }, items)
@@ -175,7 +179,8 @@ pub(crate) fn new_features(
 ) -> Result<Vec<Feature>, DataFault>
     requires few { length items.now ≤ most_features }
     requires empty { KnowsIds known.old [] }
-    ensures value { Gives fault.NoMemory (λ v. v.items) (list_of (spec.new_feature_after units part) (items_view items.now)) result }
+    ensures value { Gives fault.NoMemory (λ v. v.items)
+        (list_of (spec.new_feature_after units part) (items_view items.now)) result }
     ensures few { IfOk result (λ v. length v.items ≤ most_features) }
     ensures apart { IfOk result (λ v. IsTrue (each_after spec.is_new [] v.items)) }
 {

@@ -26,7 +26,8 @@ fn points(
     shape: DataFault,
 ) -> Result<Vec<Point>, DataFault>
     requires { length items.now < 2 ^ 64 }
-    ensures { Gives fault.NoMemory (λ v. v.items) (list_of (λ before p. point_of units shape p) (items_view items.now)) result }
+    ensures { Gives fault.NoMemory (λ v. v.items)
+        (list_of (λ before p. point_of units shape p) (items_view items.now)) result }
 {
     read_list(alloc, &PointItems { units, shape }, items)
 }
@@ -47,7 +48,8 @@ fn read_paths(
     shape: DataFault,
 ) -> Result<Vec<Path>, DataFault>
     requires { length items.now < 2 ^ 64 }
-    ensures { Gives fault.NoMemory (λ v. v.items) (list_of (λ before p. spec.path_points units shape p) (items_view items.now)) result }
+    ensures { Gives fault.NoMemory (λ v. v.items)
+        (list_of (λ before p. spec.path_points units shape p) (items_view items.now)) result }
 {
     read_list(alloc, &PathItems { units, shape }, items)
 }
@@ -80,7 +82,8 @@ pub(crate) fn geometry(
     object: &Value,
     shape: DataFault,
 ) -> Result<Geometry, DataFault>
-    ensures { Gives fault.NoMemory (λ g. g) (spec.geometry_of units shape (view object.now)) result }
+    ensures { Gives fault.NoMemory (λ g. g)
+        (spec.geometry_of units shape (view object.now)) result }
 {
     open_geometry(object, shape)?;
     match (

@@ -21,7 +21,8 @@ use pulled_json::{PullItem, PullMember, pull_list, pull_object, value_from};
 use std::alloc::Global;
 
 fn id_from(alloc: Global, part: u32, reader: &mut Reader<'_>, depth: usize) -> Option<u64>
-    ensures value { IfSome result (λ id. (d : Data) × (converted of_json (value depth reader.old) ≡ Some (d, reader.new))
+    ensures value { IfSome result
+        (λ id. (d : Data) × (converted of_json (value depth reader.old) ≡ Some (d, reader.new))
         × (features.id_of (Shape part 0) d ≡ Ok id)) }
     ensures shorter { OnSome result (length reader.new < length reader.old) }
 {
@@ -70,7 +71,8 @@ fn put_from(
     reader: &mut Reader<'_>,
     depth: usize,
 ) -> Option<Feature>
-    ensures value { IfSome result (λ f. (d : Data) × (converted of_json (value depth reader.old) ≡ Some (d, reader.new))
+    ensures value { IfSome result
+        (λ f. (d : Data) × (converted of_json (value depth reader.old) ≡ Some (d, reader.new))
         × (features.feature_after place.units place.part before.now d ≡ Ok f)) }
     ensures shorter { OnSome result (length reader.new < length reader.old) }
     ensures few { IfSome result (λ f. AreFew (before.now ++ f ∷ [])) }
@@ -198,8 +200,10 @@ fn change_from(
     depth: usize,
 ) -> Option<Change>
     requires { AreReadChanges before.now }
-    ensures value { IfSome result (λ c. (d : Data) × (converted of_json (value depth reader.old) ≡ Some (d, reader.new))
-        × (spec.change_at units (length before.now) d ≡ Ok c) × AreReadChanges (before.now ++ c ∷ [])) }
+    ensures value { IfSome result
+        (λ c. (d : Data) × (converted of_json (value depth reader.old) ≡ Some (d, reader.new))
+        × (spec.change_at units (length before.now) d ≡ Ok c)
+        × AreReadChanges (before.now ++ c ∷ [])) }
     ensures shorter { OnSome result (length reader.new < length reader.old) }
 {
     if before.len() >= MOST_FEATURES {

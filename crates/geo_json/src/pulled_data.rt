@@ -62,7 +62,8 @@ impl PullMember for PulledMembers {
 }
 
 fn layers_of(units: Units, parts: DataParts) -> Option<Vec<Layer>>
-    ensures { IfSome result (λ v. (option_map (λ w. w.items) parts.layers ≡ Some v.items) × (parts.told ≡ false → units ≡ Centimetres)) }
+    ensures { IfSome result (λ v. (option_map (λ w. w.items) parts.layers ≡ Some v.items)
+        × (parts.told ≡ false → units ≡ Centimetres)) }
 {
     if !parts.told && !are_same(units, Units::Centimetres) {
         return None;

@@ -32,7 +32,8 @@ pub(crate) struct Place {
 
 /// The next value as a name of 1 to 64 bytes.
 pub(crate) fn name_from(alloc: Global, reader: &mut Reader<'_>) -> Option<Text>
-    ensures value { IfSome result (λ n. (depth : ℕ) → converted of_json (value depth reader.old) ≡ Some (string n, reader.new)) }
+    ensures value { IfSome result (λ n. (depth : ℕ)
+        → converted of_json (value depth reader.old) ≡ Some (string n, reader.new)) }
     ensures fits { IfSome result (λ n. IsTrue (is_name n)) }
     ensures shorter { OnSome result (length reader.new < length reader.old) }
 {
@@ -53,10 +54,12 @@ fn feature_from(
     depth: usize,
 ) -> Option<Feature>
     requires { KnowsIds known.old before.now × AreNew before.now }
-    ensures value { IfSome result (λ f. (d : Data) × (converted of_json (value depth reader.old) ≡ Some (d, reader.new))
+    ensures value { IfSome result
+        (λ f. (d : Data) × (converted of_json (value depth reader.old) ≡ Some (d, reader.new))
         × (features.new_feature_after place.units place.part before.now d ≡ Ok f)) }
     ensures shorter { OnSome result (length reader.new < length reader.old) }
-    ensures known { IfSome result (λ f. KnowsIds known.new (before.now ++ f ∷ []) × AreNew (before.now ++ f ∷ [])) }
+    ensures known { IfSome result
+        (λ f. KnowsIds known.new (before.now ++ f ∷ []) × AreNew (before.now ++ f ∷ [])) }
 {
     if before.len() >= MOST_FEATURES {
         return None;
@@ -142,7 +145,8 @@ impl PullMember for PulledMembers {
 }
 
 fn layer_of(before: &[Layer], parts: LayerParts) -> Option<Layer>
-    ensures { IfSome result (λ l. (parts.name ≡ Some l.name) × (option_map (λ v. v.items) parts.features ≡ Some l.features)
+    ensures { IfSome result (λ l. (parts.name ≡ Some l.name)
+        × (option_map (λ v. v.items) parts.features ≡ Some l.features)
         × (spec.has_layer before.now l.name ≡ false)) }
 {
     match (parts.name, parts.features) {
@@ -165,8 +169,10 @@ fn layer_from(
     depth: usize,
 ) -> Option<Layer>
     requires { AreRead before.now }
-    ensures value { IfSome result (λ l. (d : Data) × (converted of_json (value depth reader.old) ≡ Some (d, reader.new))
-        × (spec.layer_said units (length before.now) before.now d ≡ Ok l) × AreRead (before.now ++ l ∷ [])) }
+    ensures value { IfSome result
+        (λ l. (d : Data) × (converted of_json (value depth reader.old) ≡ Some (d, reader.new))
+        × (spec.layer_said units (length before.now) before.now d ≡ Ok l)
+        × AreRead (before.now ++ l ∷ [])) }
     ensures shorter { OnSome result (length reader.new < length reader.old) }
 {
     if before.len() >= MOST_DATA_LAYERS {

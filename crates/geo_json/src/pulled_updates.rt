@@ -62,7 +62,8 @@ impl PullMember for PulledMembers {
 
 // The changes of an update in these units. Units that are not told are centimetres.
 fn changes_of(units: Units, parts: UpdateParts) -> Option<Vec<Change>>
-    ensures { IfSome result (λ v. (option_map (λ w. w.items) parts.changes ≡ Some v.items) × (parts.told ≡ false → units ≡ Centimetres)) }
+    ensures { IfSome result (λ v. (option_map (λ w. w.items) parts.changes ≡ Some v.items)
+        × (parts.told ≡ false → units ≡ Centimetres)) }
 {
     if !parts.told && !are_same(units, Units::Centimetres) {
         return None;
@@ -96,7 +97,8 @@ fn changes_in(
 /// The changes that the bytes say. None says that they are refused, or that memory ran out, or that they tell
 /// two units.
 pub(crate) fn pulled_changes(alloc: Global, bytes: &[u8]) -> Option<Vec<Change>>
-    ensures { IfSome result (λ v. (spec.update_in bytes.now ≡ Ok v.items) × AreReadChanges v.items) }
+    ensures { IfSome result
+        (λ v. (spec.update_in bytes.now ≡ Ok v.items) × AreReadChanges v.items) }
 {
     let mut scratch = Scratch::new(alloc);
     match changes_in(alloc, Units::Centimetres, &mut scratch, bytes) {

@@ -67,7 +67,8 @@ fn update(alloc: Global, object: &Value) -> Result<Update, DataFault>
 
 fn changes(alloc: Global, units: Units, items: &[Value]) -> Result<Vec<Change>, DataFault>
     requires { length items.now < 2 ^ 64 }
-    ensures value { Gives fault.NoMemory (λ v. v.items) (list_of (λ before e. spec.change_at units (length before) e) (items_view items.now)) result }
+    ensures value { Gives fault.NoMemory (λ v. v.items) (list_of
+        (λ before e. spec.change_at units (length before) e) (items_view items.now)) result }
     ensures valid { IfOk result (λ v. IsTrue (each_after spec.is_read [] v.items)) }
 {
     read_list(alloc, &ChangeItems { units }, items)
@@ -75,7 +76,8 @@ fn changes(alloc: Global, units: Units, items: &[Value]) -> Result<Vec<Change>, 
 
 fn ids(alloc: Global, items: &[Value], shape: DataFault) -> Result<Vec<u64>, DataFault>
     requires { length items.now < 2 ^ 64 }
-    ensures { Gives fault.NoMemory (λ v. v.items) (list_of (λ before id. id_of shape id) (items_view items.now)) result }
+    ensures { Gives fault.NoMemory (λ v. v.items)
+        (list_of (λ before id. id_of shape id) (items_view items.now)) result }
 {
     read_list(alloc, &IdItems { shape }, items)
 }
@@ -89,7 +91,8 @@ fn ids_in(alloc: Global, value: &Value, shape: DataFault) -> Result<Vec<u64>, Da
 }
 
 fn removed(alloc: Global, object: &Value, shape: DataFault) -> Result<Vec<u64>, DataFault>
-    ensures { Gives fault.NoMemory (λ v. v.items) (values.or_value [] (spec.ids_in shape) (get (codes "remove") (view object.now))) result }
+    ensures { Gives fault.NoMemory (λ v. v.items)
+        (values.or_value [] (spec.ids_in shape) (get (codes "remove") (view object.now))) result }
 {
     match object.get("remove") {
         Some(value) => ids_in(alloc, value, shape),
@@ -98,7 +101,8 @@ fn removed(alloc: Global, object: &Value, shape: DataFault) -> Result<Vec<u64>, 
 }
 
 fn puts(object: &Value, shape: DataFault) -> Result<&[Value], DataFault>
-    ensures { seen (λ vs. items_view vs.now) result ≡ values.or_value no_items (values.list shape) (get (codes "put") (view object.entry.now)) }
+    ensures { seen (λ vs. items_view vs.now) result
+        ≡ values.or_value no_items (values.list shape) (get (codes "put") (view object.entry.now)) }
 {
     match object.get("put") {
         Some(value) => list(Some(value), shape),
@@ -119,7 +123,8 @@ fn change(
     before: &[Change],
     object: &Value,
 ) -> Result<Change, DataFault>
-    ensures value { Gives fault.NoMemory (λ c. c) (spec.change_at units (length before.now) (view object.now)) result }
+    ensures value { Gives fault.NoMemory (λ c. c)
+        (spec.change_at units (length before.now) (view object.now)) result }
     ensures valid { IfOk result (λ c. IsTrue (spec.is_read before.now c)) }
 {
     if before.len() >= MOST_FEATURES {

@@ -17,14 +17,16 @@ pub record Within (inner outer : Bounds) : Type 0 where
   pub east : inner.east ≤ outer.east
   pub south : inner.south ≤ outer.south
 
--- the least rectangle that holds every point of the parts: it holds them, and lies in each other one that does
+-- the least rectangle that holds every point of the parts: it holds them, and lies in each other
+-- one that does
 pub record IsLeastBounds (b : Bounds) (parts : List (List Point)) : Type 0 where
   pub holds : All (All (InBounds b)) parts
   pub least : (other : Bounds) → All (All (InBounds other)) parts → Within b other
 
 -- two rectangles have a point in common, borders included
 abbrev pub meets : Bounds → Bounds → Bool
-meets a b = nat_le a.west b.east && nat_le b.west a.east && nat_le a.north b.south && nat_le b.north a.south
+meets a b =
+    nat_le a.west b.east && nat_le b.west a.east && nat_le a.north b.south && nat_le b.north a.south
 
 -- the box of no point yet: every point of the world widens it to that point alone
 abbrev pub no_bounds : Bounds
@@ -32,7 +34,12 @@ no_bounds = record { west = 2 ^ 30; north = 2 ^ 30; east = 0; south = 0 }
 
 -- the rectangle widened to hold the point
 abbrev pub box_with : Bounds → Point → Bounds
-box_with b p = record { west = min b.west p.x; north = min b.north p.y; east = max b.east p.x; south = max b.south p.y }
+box_with b p = record {
+  west = min b.west p.x;
+  north = min b.north p.y;
+  east = max b.east p.x;
+  south = max b.south p.y;
+}
 
 -- the bounding box of the parts of a shape: the least and the greatest coordinates of their points
 abbrev pub bounds_of : List (List Point) → Bounds

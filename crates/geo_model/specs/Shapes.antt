@@ -31,7 +31,8 @@ is_none (part ∷ parts) = false
 
 -- no part, no point, a line of fewer than 2 or a ring of fewer than 3 points
 abbrev pub has_too_few : Geometry → Bool
-has_too_few g = is_none (parts_of g) || list_any (λ part. nat_lt (length part) (least_points g)) (parts_of g)
+has_too_few g =
+    is_none (parts_of g) || list_any (λ part. nat_lt (length part) (least_points g)) (parts_of g)
 
 -- a coordinate over 2^30
 abbrev pub is_outside : Point → Bool

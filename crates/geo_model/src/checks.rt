@@ -86,7 +86,8 @@ fn has_too_many_points(parts: &[Path]) -> bool
 
 /// The first fault of the shape.
 pub(crate) fn check_shape(geometry: &Geometry) -> Result<(), GeoFault>
-    ensures { MatchResult result (λ _. shape_fault geometry.now ≡ None) (λ e. shape_fault geometry.now ≡ Some e) }
+    ensures { MatchResult result (λ _. shape_fault geometry.now ≡ None)
+        (λ e. shape_fault geometry.now ≡ Some e) }
 {
     let parts = parts_of(geometry);
     if parts.is_empty() || has_short(parts, least_points(geometry)) {
@@ -126,7 +127,8 @@ fn has_double_name(attrs: &[Attr]) -> bool
 
 /// The first fault of the attributes.
 pub(crate) fn check_attrs(attrs: &[Attr]) -> Result<(), GeoFault>
-    ensures { MatchResult result (λ _. attrs_fault attrs.now ≡ None) (λ e. attrs_fault attrs.now ≡ Some e) }
+    ensures { MatchResult result (λ _. attrs_fault attrs.now ≡ None)
+        (λ e. attrs_fault attrs.now ≡ Some e) }
 {
     if attrs.len() > MOST_ATTRS {
         return Err(GeoFault::TooManyAttrs);

@@ -32,13 +32,16 @@ impl Model for Feature {
 
     ghost view = { λ f. record { id = f.id; geometry = f.geometry; attrs = f.attrs.items } };
 
-    ghost invariant = { λ f. (fault_of f.geometry f.attrs.items ≡ None) × (f.bounds ≡ bounds_of (parts_of f.geometry)) };
+    ghost invariant = { λ f. (fault_of f.geometry f.attrs.items ≡ None)
+        × (f.bounds ≡ bounds_of (parts_of f.geometry)) };
 }
 
 /// The feature of the parts, or their first fault in the order of [`GeoFault`].
 pub fn make_feature(id: u64, geometry: Geometry, attrs: Vec<Attr>) -> Result<Feature, GeoFault>
-    ensures made { IfOk result (λ f. f ≡ record { id = id; geometry = geometry; attrs = attrs.items }) }
-    ensures first { MatchResult result (λ _. fault_of geometry attrs.items ≡ None) (λ e. fault_of geometry attrs.items ≡ Some e) }
+    ensures made { IfOk result
+        (λ f. f ≡ record { id = id; geometry = geometry; attrs = attrs.items }) }
+    ensures first { MatchResult result (λ _. fault_of geometry attrs.items ≡ None)
+        (λ e. fault_of geometry attrs.items ≡ Some e) }
 {
     check_shape(&geometry)?;
     check_attrs(attrs.as_slice())?;

@@ -2,7 +2,8 @@
 use Rattle.std.specs.Prelude.{ℕ, ◌==◌, nat_lt, if◌then◌else◌, List, length, Option, Some, None}
 use Rattle.std.specs.List.{position_or_len, before_first, after_first}
 
--- what stands before the first such byte, and what stands behind it; none where there is no such byte
+-- what stands before the first such byte, and what stands behind it; none where there is no such
+-- byte
 unfoldable pub cut_at : ℕ → List ℕ → Option (List ℕ × List ℕ)
 cut_at byte text =
     if nat_lt (position_or_len (λ b. b == byte) text) (length text)

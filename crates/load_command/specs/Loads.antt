@@ -1,4 +1,5 @@
--- What generated work does: the events of its steps on a farm, and the line that sums them up. Histories are newest first.
+-- What generated work does: the events of its steps on a farm, and the line that sums them up.
+-- Histories are newest first.
 use Rattle.std.specs.Prelude.{◌≡◌, ◌≢◌, ℕ, true, List, [], ◌∷◌, ◌++◌, length, map, codes, MatchBool}
 use Rattle.std.specs.List.{sum_by}
 use Rattle.std.specs.Fmt.{decimal}
@@ -24,7 +25,8 @@ loader = record { front = 0; number = 0 }
 
 -- what was claimed is drawn and ended, if it is a job; memory was not wanting
 abbrev pub EndsClaim : ClaimAnswer → List Entry → List Entry → Type 0
-EndsClaim (Job ticket key version) before after = (answer : Finished) × (answer ≢ Finished.NoMemory) × (after ≡ Finish ticket true answer ∷ before)
+EndsClaim (Job ticket key version) before after = (answer : Finished) × (answer ≢ Finished.NoMemory)
+    × (after ≡ Finish ticket true answer ∷ before)
 EndsClaim answer before after = after ≡ before
 
 -- the answer of a Collect gives no reply
@@ -32,11 +34,12 @@ abbrev pub GivesNone : Collected → Type 0
 GivesNone (Collected.Reply reply) = ⊥
 GivesNone answer = Unit {0}
 
--- A step: its tile is expired, if so marked, and asked for; what waits first is claimed, drawn and ended; the replies are
--- collected until there is none; and the tile is fetched.
+-- A step: its tile is expired, if so marked, and asked for; what waits first is claimed, drawn and
+-- ended; the replies are collected until there is none; and the tile is fetched.
 pub record IsStep (s : Step) (before after : List Entry) : Type 0 where
   pub expired : List Entry
-  pub expires : MatchBool s.expire ((count : ℕ) × (expired ≡ Expire (spot_tile s.spot) count ∷ before)) (expired ≡ before)
+  pub expires : MatchBool s.expire
+      ((count : ℕ) × (expired ≡ Expire (spot_tile s.spot) count ∷ before)) (expired ≡ before)
   pub asked : AskAnswer
   pub claimed : ClaimAnswer
   pub ended : List Entry
@@ -46,12 +49,14 @@ pub record IsStep (s : Step) (before after : List Entry) : Type 0 where
   pub is_last : GivesNone last
   pub fetched : Fetched
   pub has_memory : fetched ≢ Fetched.NoMemory
-  pub after_is : after ≡ Fetch s.spot fetched ∷ Collect 0 last ∷ (map (λ reply. Collect 0 (Collected.Reply reply)) replies ++ ended)
+  pub after_is : after ≡ Fetch s.spot fetched ∷ Collect 0 last
+      ∷ (map (λ reply. Collect 0 (Collected.Reply reply)) replies ++ ended)
 
 -- steps one after another
 abbrev pub IsLoad : List Step → List Entry → List Entry → Type 0
 IsLoad [] before after = after ≡ before
-IsLoad (s ∷ ss) before after = (middle : List Entry) × IsStep s before middle × IsLoad ss middle after
+IsLoad (s ∷ ss) before after =
+    (middle : List Entry) × IsStep s before middle × IsLoad ss middle after
 
 -- ---- the line
 
@@ -61,11 +66,13 @@ clean_tiles [] = []
 clean_tiles (Fetch spot (Clean version bytes) ∷ g) = bytes ∷ clean_tiles g
 clean_tiles (_ ∷ g) = clean_tiles g
 
--- the line of work with so many features: how many tiles were fetched clean, how many bytes they have, and the sum of these bytes
+-- the line of work with so many features: how many tiles were fetched clean, how many bytes they
+-- have, and the sum of these bytes
 unfoldable pub load_text : ℕ → List Entry → List ℕ
 load_text n h =
     codes "features " ++ decimal n ++ codes " asks 32 clean " ++ decimal (length (clean_tiles h))
-    ++ codes " bytes " ++ decimal (sum_by length (clean_tiles h)) ++ codes " sum " ++ decimal (sum_by (λ bytes. sum_by (λ b. b) bytes) (clean_tiles h)) ++ codes "\n"
+    ++ codes " bytes " ++ decimal (sum_by length (clean_tiles h)) ++ codes " sum "
+    ++ decimal (sum_by (λ bytes. sum_by (λ b. b) bytes) (clean_tiles h)) ++ codes "\n"
 
 -- ---- work that broke off
 

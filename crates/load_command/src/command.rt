@@ -28,7 +28,8 @@ fn run_steps<D: TileStore>(
     requires stands { (store_tells : Bool) × StandsFor D.state store_tells farm.old [] }
     requires tiles { Each (λ s. IsTile (spot_tile s.spot)) steps.now }
     requires few { length steps.now ≤ 32 }
-    ensures run { (store_tells : Bool) → StandsFor D.state store_tells farm.old [] → Runs D.state store_tells farm.new steps.now result }
+    ensures run { (store_tells : Bool) → StandsFor D.state store_tells farm.old []
+        → Runs D.state store_tells farm.new steps.now result }
     ensures kept { Lasts D.state farm.old farm.new }
 {
     let mut totals = Totals::none();
@@ -62,7 +63,9 @@ fn work_on<D: TileStore, O: Sink>(
 ) -> Result<(), Stop>
     requires few { features ≤ 100000 }
     requires stands { (store_tells : Bool) × StandsFor D.state store_tells farm.old [] }
-    ensures run { (store_tells : Bool) → StandsFor D.state store_tells farm.old [] → LoadsOn seed features (λ h. StandsFor D.state store_tells farm.new h) (O.state out.old) (O.state out.new) result }
+    ensures run { (store_tells : Bool) → StandsFor D.state store_tells farm.old []
+        → LoadsOn seed features (λ h. StandsFor D.state store_tells farm.new h) (O.state out.old)
+        (O.state out.new) result }
     ensures kept { Lasts D.state farm.old farm.new }
 {
     let all = steps(seed, features);
@@ -86,7 +89,9 @@ fn run_on<D: TileStore, O: Sink>(
     requires few { features ≤ 100000 }
     requires begins { (store : D) × Begins D.state (work_plan seed features) None store farm }
     ensures { (store : D) → Begins D.state (work_plan seed features) None store farm
-        → Leaves D.state (work_plan seed features) store result.1 (λ stands. LoadsOn seed features stands (O.state out.old) (O.state out.new) result.0) }
+        → Leaves D.state (work_plan seed features)
+        store result.1 (λ stands. LoadsOn seed features stands (O.state out.old)
+        (O.state out.new) result.0) }
 {
     let mut farm = farm;
     let end = work_on(alloc, &mut farm, seed, features, out);
@@ -108,7 +113,8 @@ pub fn load<O: Sink, D: TileStore>(
     store: D,
 ) -> (Result<(), Stop>, D)
     requires { features ≤ 100000 }
-    ensures { Loads D.state seed features store result.1 (O.state out.old) (O.state out.new) result.0 }
+    ensures { Loads D.state seed features store result.1 (O.state out.old)
+        (O.state out.new) result.0 }
 {
     let Ok(plan) = plan(alloc, seed, features) else {
         return (Err(Stop::NoMemory), store);

@@ -35,9 +35,11 @@ pub(crate) struct StepSeen {
 }
 
 fn expire_marked<D: TileStore>(farm: &mut Farm<D>, step: Step)
-    requires stands { (store_tells : Bool) × (g : List Entry) × StandsFor D.state store_tells farm.old g × (weight g < most_turns) }
+    requires stands { (store_tells : Bool) × (g : List Entry)
+        × StandsFor D.state store_tells farm.old g × (weight g < most_turns) }
     requires tile { IsTile (spot_tile step.spot) }
-    ensures grows { (store_tells : Bool) (g : List Entry) → StandsFor D.state store_tells farm.old g → Grows D.state store_tells farm.new (weight g + 1) (Expires step g) }
+    ensures grows { (store_tells : Bool) (g : List Entry) → StandsFor D.state store_tells farm.old g
+        → Grows D.state store_tells farm.new (weight g + 1) (Expires step g) }
     ensures kept { Lasts D.state farm.old farm.new }
 {
     if step.expire {
@@ -58,8 +60,11 @@ fn is_wanting(answer: Finished) -> bool
 
 // Claims what waits first; a job is drawn and finished. Answers whether its put failed.
 fn draw_next<D: TileStore>(alloc: Global, farm: &mut Farm<D>) -> Result<bool, NoMemory>
-    requires stands { (store_tells : Bool) × (g : List Entry) × StandsFor D.state store_tells farm.old g × (weight g < most_turns) }
-    ensures grows { (store_tells : Bool) (g : List Entry) (step : Step) → StandsFor D.state store_tells farm.old g → Grows D.state store_tells farm.new (weight g + 2) (Draws step g result) }
+    requires stands { (store_tells : Bool) × (g : List Entry)
+        × StandsFor D.state store_tells farm.old g × (weight g < most_turns) }
+    ensures grows { (store_tells : Bool) (g : List Entry) (step : Step)
+        → StandsFor D.state store_tells farm.old g
+        → Grows D.state store_tells farm.new (weight g + 2) (Draws step g result) }
     ensures kept { Lasts D.state farm.old farm.new }
 {
     let job = match farm.claim(0) {
@@ -78,8 +83,10 @@ fn draw_next<D: TileStore>(alloc: Global, farm: &mut Farm<D>) -> Result<bool, No
 }
 
 fn collect_all<D: TileStore>(farm: &mut Farm<D>)
-    requires stands { (store_tells : Bool) × (g : List Entry) × StandsFor D.state store_tells farm.old g × (weight g < most_turns) }
-    ensures grows { (store_tells : Bool) (g : List Entry) → StandsFor D.state store_tells farm.old g → Grows D.state store_tells farm.new (weight g + 1) (CollectsAll g) }
+    requires stands { (store_tells : Bool) × (g : List Entry)
+        × StandsFor D.state store_tells farm.old g × (weight g < most_turns) }
+    ensures grows { (store_tells : Bool) (g : List Entry) → StandsFor D.state store_tells farm.old g
+        → Grows D.state store_tells farm.new (weight g + 1) (CollectsAll g) }
     ensures kept { Lasts D.state farm.old farm.new }
 {
     while let Collected::Reply(_) = farm.collect(0) {}
@@ -108,8 +115,10 @@ fn fetch_one<D: TileStore>(
     spot: Spot,
     lost: bool,
 ) -> Result<StepSeen, NoMemory>
-    requires stands { (store_tells : Bool) × (g : List Entry) × StandsFor D.state store_tells farm.old g × (weight g < most_turns) }
-    ensures grows { (store_tells : Bool) (g : List Entry) → StandsFor D.state store_tells farm.old g → Grows D.state store_tells farm.new (weight g + 1) (FetchesOne spot lost g result) }
+    requires stands { (store_tells : Bool) × (g : List Entry)
+        × StandsFor D.state store_tells farm.old g × (weight g < most_turns) }
+    ensures grows { (store_tells : Bool) (g : List Entry) → StandsFor D.state store_tells farm.old g
+        → Grows D.state store_tells farm.new (weight g + 1) (FetchesOne spot lost g result) }
     ensures kept { Lasts D.state farm.old farm.new }
 {
     let fetched = farm.fetch(alloc, spot);
@@ -127,9 +136,11 @@ pub(crate) fn run_step<D: TileStore>(
     farm: &mut Farm<D>,
     step: &Step,
 ) -> Result<StepSeen, NoMemory>
-    requires stands { (store_tells : Bool) × (g : List Entry) × StandsFor D.state store_tells farm.old g × (weight g < 2 ^ 61) }
+    requires stands { (store_tells : Bool) × (g : List Entry)
+        × StandsFor D.state store_tells farm.old g × (weight g < 2 ^ 61) }
     requires tile { IsTile (spot_tile step.now.spot) }
-    ensures grows { (store_tells : Bool) (g : List Entry) → StandsFor D.state store_tells farm.old g → Grows D.state store_tells farm.new (weight g + 7) (Steps step.now g result) }
+    ensures grows { (store_tells : Bool) (g : List Entry) → StandsFor D.state store_tells farm.old g
+        → Grows D.state store_tells farm.new (weight g + 7) (Steps step.now g result) }
     ensures kept { Lasts D.state farm.old farm.new }
 {
     expire_marked(farm, *step);

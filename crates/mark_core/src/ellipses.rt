@@ -33,7 +33,8 @@ fn width_at(a: u32, b: u32, y: u64) -> u64
     requires b { b ≤ 2 ^ 31 }
     requires some { 1 ≤ b }
     requires within { y ≤ b }
-    ensures is { (x : ℕ) → nat_le x result ≡ nat_le (x * x * (b * b) + y * y * (a * a)) (a * a * (b * b)) }
+    ensures is { (x : ℕ)
+        → nat_le x result ≡ nat_le (x * x * (b * b) + y * y * (a * a)) (a * a * (b * b)) }
     ensures little { result ≤ a }
 {
     let high = squared(u64::from(b));

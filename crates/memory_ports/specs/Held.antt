@@ -13,8 +13,9 @@ use Rattle.port_events.specs.declared.events.SendFault.TheVariants as send_fault
 use Rattle.port_events.specs.Told.{PortsTold}
 use Rattle.memory_ports.specs.declared.steps.PortStep.{PortStep}
 
--- A connection: the bytes taken, whether it is open, whether its peer sends no more, whether its last
--- send took fewer bytes than it was given, and whether it is to hear Writable before the next step.
+-- A connection: the bytes taken, whether it is open, whether its peer sends no more, whether its
+-- last send took fewer bytes than it was given, and whether it is to hear Writable before the next
+-- step.
 pub record PeerHeld : Type 0 where
   pub taken : List ℕ
   pub up : Bool
@@ -22,11 +23,11 @@ pub record PeerHeld : Type 0 where
   pub short : Bool
   pub due : Bool
 
--- Ports in memory: their record, their connections by number, and the steps that are left; how often
--- the Await that stands first has answered Woken, and whether it was seen who is to hear Writable
--- before the first step; how many bytes a send takes at most, the sends that are to fail by their
--- numbers and how many sends were answered, whether every listen fails, and how often an Await may
--- answer Woken.
+-- Ports in memory: their record, their connections by number, and the steps that are left; how
+-- often the Await that stands first has answered Woken, and whether it was seen who is to hear
+-- Writable before the first step; how many bytes a send takes at most, the sends that are to fail
+-- by their numbers and how many sends were answered, whether every listen fails, and how often an
+-- Await may answer Woken.
 pub record PortsHeld : Type 0 where
   pub log : List PortItem
   pub peers : List PeerHeld
@@ -41,7 +42,18 @@ pub record PortsHeld : Type 0 where
 
 -- ports at their beginning
 abbrev pub first_ports : List PortStep → ℕ → ℕ → PortsHeld
-first_ports steps most turns = record { log = []; peers = []; steps = steps; used = 0; ready = false; most = most; fails = []; sends = 0; deaf = false; turns = turns }
+first_ports steps most turns = record {
+  log = [];
+  peers = [];
+  steps = steps;
+  used = 0;
+  ready = false;
+  most = most;
+  fails = [];
+  sends = 0;
+  deaf = false;
+  turns = turns;
+}
 
 -- of a connection that was never opened: no bytes, not open, not ended
 abbrev pub taken_of : Option PeerHeld → List ℕ
@@ -91,8 +103,8 @@ change f c [] = []
 change f zero (p ∷ ps) = f p ∷ ps
 change f (suc c) (p ∷ ps) = p ∷ change f c ps
 
--- a connection that is open no longer, one whose peer sends no more, and one that took the first n of
--- these bytes
+-- a connection that is open no longer, one whose peer sends no more, and one that took the first n
+-- of these bytes
 abbrev pub closed : PeerHeld → PeerHeld
 closed p = record p { up = false }
 
@@ -106,11 +118,13 @@ with_taken bytes n p = record p { taken = p.taken ++ take n bytes; short = nat_l
 abbrev pub logged : PortItem → PortsHeld → PortsHeld
 logged line h = record h { log = h.log ++ line ∷ [] }
 
--- A listen, exactly: it fails where the ports are deaf, and the record has a line of it. After want of
--- memory all is as before.
+-- A listen, exactly: it fails where the ports are deaf, and the record has a line of it. After want
+-- of memory all is as before.
 abbrev pub ListensHeld : PortsHeld → PortsHeld → List ℕ → Result (Unit {0}) PortFault → Type 0
-ListensHeld old new address (Ok done) = (old.deaf ≡ false) × (new ≡ logged (item.Listened address false) old)
-ListensHeld old new address (Err fault.Failed) = (old.deaf ≡ true) × (new ≡ logged (item.Listened address true) old)
+ListensHeld old new address (Ok done) =
+    (old.deaf ≡ false) × (new ≡ logged (item.Listened address false) old)
+ListensHeld old new address (Err fault.Failed) =
+    (old.deaf ≡ true) × (new ≡ logged (item.Listened address true) old)
 ListensHeld old new address (Err fault.NoMemory) = new ≡ old
 
 -- A send, exactly: it fails by its number, and then the connection is open no longer; else as many
@@ -119,8 +133,10 @@ abbrev pub SendsHeld : PortsHeld → PortsHeld → ℕ → List ℕ → Result �
 SendsHeld old new c bytes (Ok n) =
     (is_to_fail old.fails old.sends ≡ false)
     × (n ≡ min (length bytes) old.most)
-    × (new ≡ record (logged (item.Sent c (length bytes) (Some n)) old) { peers = change (with_taken bytes n) c old.peers; sends = next_count old.sends })
+    × (new ≡ record (logged (item.Sent c (length bytes) (Some n)) old)
+    { peers = change (with_taken bytes n) c old.peers; sends = next_count old.sends })
 SendsHeld old new c bytes (Err send_fault.Failed) =
     (is_to_fail old.fails old.sends ≡ true)
-    × (new ≡ record (logged (item.Sent c (length bytes) None) old) { peers = change closed c old.peers; sends = next_count old.sends })
+    × (new ≡ record (logged (item.Sent c (length bytes) None) old)
+    { peers = change closed c old.peers; sends = next_count old.sends })
 SendsHeld old new c bytes (Err send_fault.NoMemory) = new ≡ old

@@ -50,7 +50,8 @@ is_live peers step.Break = true
 abbrev pub is_passable : List PeerHeld → PortStep → Bool
 is_passable peers s = cond (is_await s) true (not (is_live peers s))
 
--- these steps are left of those, and the steps before them were passed over; was an Await among them?
+-- these steps are left of those, and the steps before them were passed over; was an Await among
+-- them?
 pub record Passed (peers : List PeerHeld) (old new : List PortStep) (reached : Bool) : Type 0 where
   pub skipped : List PortStep
   pub split : old ≡ skipped ++ new
@@ -67,7 +68,8 @@ pub record Passes (peers : List PeerHeld) (old new : List PortStep) (reached : B
   pub passed : Passed peers old new reached
   pub begins : BeginsLive peers new
 
--- ports with these steps left; past an Await all begins anew: no Woken of the next one, and nobody marked
+-- ports with these steps left; past an Await all begins anew: no Woken of the next one, and nobody
+-- marked
 abbrev pub moved : List PortStep → Bool → PortsHeld → PortsHeld
 moved steps true h = record h { steps = steps; used = 0; ready = false }
 moved steps false h = record h { steps = steps }
@@ -106,22 +108,31 @@ stepped rest h = record h { steps = rest; used = 0; ready = false }
 abbrev pub plain : PortEvent → PortsHeld → Play
 plain e h = record { event = e; piece = []; after = logged (item.Heard e []) h }
 
--- The event of a first step that is played. Past the last step it is Finished. An Await answers Woken
--- until it has used its turns, and then Finished. An Open past `2^32` connections is want of memory.
+-- The event of a first step that is played. Past the last step it is Finished. An Await answers
+-- Woken until it has used its turns, and then Finished. An Open past `2^32` connections is want of
+-- memory.
 abbrev pub play_step : List PortStep → PortsHeld → Play
 play_step [] h = plain event.Finished h
 play_step (step.Open ∷ rest) h = cond (nat_lt (length h.peers) (2 ^ 32))
-    (plain (event.Opened (length h.peers)) (record (stepped rest h) { peers = h.peers ++ fresh ∷ [] }))
+    (plain (event.Opened (length h.peers))
+    (record (stepped rest h) { peers = h.peers ++ fresh ∷ [] }))
     (record { event = event.NoMemory; piece = []; after = h })
-play_step (step.Bytes c piece ∷ rest) h = record { event = event.Bytes c; piece = piece; after = stepped rest (logged (item.Heard (event.Bytes c) piece) h) }
-play_step (step.End c ∷ rest) h = plain (event.Ended c) (record (stepped rest h) { peers = change with_end c h.peers })
-play_step (step.Lose c ∷ rest) h = plain (event.Lost c) (record (stepped rest h) { peers = change closed c h.peers })
+play_step (step.Bytes c piece ∷ rest) h = record {
+  event = event.Bytes c;
+  piece = piece;
+  after = stepped rest (logged (item.Heard (event.Bytes c) piece) h);
+}
+play_step (step.End c ∷ rest) h =
+    plain (event.Ended c) (record (stepped rest h) { peers = change with_end c h.peers })
+play_step (step.Lose c ∷ rest) h =
+    plain (event.Lost c) (record (stepped rest h) { peers = change closed c h.peers })
 play_step (step.Await front n ∷ rest) h = cond (nat_lt h.used h.turns)
     (plain event.Woken (record h { used = h.used + 1 }))
     (plain event.Finished h)
 play_step (step.Break ∷ rest) h = plain event.Broken (stepped rest h)
 
--- Writable of the first connection that is marked, if there is one; else the event of the first step
+-- Writable of the first connection that is marked, if there is one; else the event of the first
+-- step
 abbrev pub play_due : Option ℕ → PortsHeld → Play
 play_due (Some c) h = plain (event.Writable c) (record h { peers = change writable_told c h.peers })
 play_due None h = play_step h.steps h
@@ -151,7 +162,8 @@ IsOver (step.End c ∷ rest) used turns = ⊥
 IsOver (step.Lose c ∷ rest) used turns = ⊥
 IsOver (step.Break ∷ rest) used turns = ⊥
 
--- Where nobody is to hear Writable, and the script is through or the Await that stands first has used
--- its turns, the next event is Finished.
+-- Where nobody is to hear Writable, and the script is through or the Await that stands first has
+-- used its turns, the next event is Finished.
 abbrev pub FinishedWhereOver : Type 0
-FinishedWhereOver = (h : PortsHeld) → position is_due h.peers ≡ None → IsOver h.steps h.used h.turns → (play h).event ≡ event.Finished
+FinishedWhereOver = (h : PortsHeld) → position is_due h.peers ≡ None → IsOver h.steps h.used h.turns
+    → (play h).event ≡ event.Finished

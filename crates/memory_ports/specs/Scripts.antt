@@ -22,7 +22,8 @@ is_piece piece = nat_lt 0 (length piece) && nat_le (length piece) most_piece_byt
 abbrev pub is_valid : List Bool → List PortStep → Bool
 is_valid alive [] = true
 is_valid alive (step.Open ∷ rest) = is_valid (alive ++ true ∷ []) rest
-is_valid alive (step.Bytes c piece ∷ rest) = is_alive_in alive c && (is_piece piece && is_valid alive rest)
+is_valid alive (step.Bytes c piece ∷ rest) =
+    is_alive_in alive c && (is_piece piece && is_valid alive rest)
 is_valid alive (step.End c ∷ rest) = is_alive_in alive c && is_valid (set alive c false) rest
 is_valid alive (step.Lose c ∷ rest) = is_alive_in alive c && is_valid (set alive c false) rest
 is_valid alive (step.Await front n ∷ rest) = is_valid alive rest

@@ -22,7 +22,13 @@ impl Model for Peer {
 
     ghost Value = { PeerHeld };
 
-    ghost view = { λ p. record { taken = p.taken.items; up = p.up; ended = p.ended; short = p.short; due = p.due } };
+    ghost view = { λ p. record {
+      taken = p.taken.items;
+      up = p.up;
+      ended = p.ended;
+      short = p.short;
+      due = p.due;
+    } };
 }
 
 impl Peer {

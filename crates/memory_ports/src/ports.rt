@@ -49,7 +49,18 @@ impl Model for MemPorts {
 
     ghost Value = { PortsHeld };
 
-    ghost view = { λ p. record { log = p.log.items; peers = p.peers.items; steps = p.script.steps; used = p.script.used; ready = p.script.ready; most = p.most; fails = p.fails.items; sends = p.sends; deaf = p.deaf; turns = p.turns } };
+    ghost view = { λ p. record {
+      log = p.log.items;
+      peers = p.peers.items;
+      steps = p.script.steps;
+      used = p.script.used;
+      ready = p.script.ready;
+      most = p.most;
+      fails = p.fails.items;
+      sends = p.sends;
+      deaf = p.deaf;
+      turns = p.turns;
+    } };
 
     ghost invariant = { λ p. length p.peers.items ≤ 2 ^ 32 };
 }
@@ -67,7 +78,8 @@ fn tell(log: &mut Vec<PortItem>, alloc: Global, event: PortEvent) -> PortEvent
 
 // Copies a piece into the room, and once more for the record; none where memory is wanting.
 fn give(alloc: Global, piece: &[u8], room: &mut Vec<u8>) -> Option<Bytes>
-    ensures { IfSome result (λ copy. (copy ≡ piece.now) × (room.new.items ≡ room.old.items ++ piece.now)) }
+    ensures { IfSome result
+        (λ copy. (copy ≡ piece.now) × (room.new.items ≡ room.old.items ++ piece.now)) }
 {
     let Ok(copy) = Bytes::of(alloc, piece) else {
         return None;
@@ -134,9 +146,11 @@ impl MemPorts {
         requires renderd { is_valid [] renderd.items ≡ true }
         requires tiles { is_valid [] tiles.items ≡ true }
         requires control { is_valid [] control.items ≡ true }
-        ensures renderd { IfOk result (λ ports. ports.renderd ≡ first_ports renderd.items take turns) }
+        ensures renderd { IfOk result
+            (λ ports. ports.renderd ≡ first_ports renderd.items take turns) }
         ensures tiles { IfOk result (λ ports. ports.tiles ≡ first_ports tiles.items take turns) }
-        ensures control { IfOk result (λ ports. ports.control ≡ first_ports control.items take turns) }
+        ensures control { IfOk result
+            (λ ports. ports.control ≡ first_ports control.items take turns) }
     {
         let counts = Counts::new(alloc)?;
         let second = Arc::try_clone(&counts)?;
@@ -227,7 +241,8 @@ impl MemPorts {
     fn play(&mut self, room: &mut Vec<u8>) -> PortEvent
         requires live { BeginsLive self.old.peers self.old.steps }
         requires empty { room.old.items ≡ [] }
-        ensures played { PlayedBy (play_step self.old.steps self.old) self.old result self.new room.new.items }
+        ensures played { PlayedBy (play_step self.old.steps self.old)
+            self.old result self.new room.new.items }
         ensures piece { IsPieceOf result room.new.items }
     {
         if self.log.reserve(1).is_err() || self.peers.reserve(1).is_err() {
@@ -343,8 +358,10 @@ impl Ports for MemPorts {
 
     /// As the trait says, and exactly: Failed where the ports are deaf.
     fn listen(&mut self, address: &str) -> Result<(), PortFault>
-        ensures told { Listens address.now result (ports_state self.old).told (ports_state self.new).told }
-        ensures cause { ListenCounts (ports_state self.old).faults (ports_state self.new).faults result }
+        ensures told { Listens address.now result (ports_state self.old).told
+            (ports_state self.new).told }
+        ensures cause { ListenCounts (ports_state self.old).faults
+            (ports_state self.new).faults result }
         ensures exact { ListensHeld self.old self.new address.now result }
     {
         self.hear_at(address)
@@ -353,11 +370,14 @@ impl Ports for MemPorts {
     /// As the trait says, and exactly the event that is next. Finished comes only where the script is
     /// through, or the Await that stands first has used its turns.
     fn next(&mut self, room: &mut Vec<u8>) -> PortEvent
-        ensures told { Hears result room.new.items (ports_state self.old).told (ports_state self.new).told }
+        ensures told { Hears result room.new.items (ports_state self.old).told
+            (ports_state self.new).told }
         ensures piece { IsPieceOf result room.new.items }
-        ensures cause { EventCounts (ports_state self.old).faults (ports_state self.new).faults result }
+        ensures cause { EventCounts (ports_state self.old).faults
+            (ports_state self.new).faults result }
         ensures exact { Plays self.old self.new result room.new.items }
-        ensures over { result ≡ event.Finished → IsOver self.new.steps self.new.used self.new.turns }
+        ensures over { result ≡ event.Finished
+            → IsOver self.new.steps self.new.used self.new.turns }
     {
         self.play_next(room)
     }
@@ -366,9 +386,11 @@ impl Ports for MemPorts {
     /// a send takes at most.
     fn send(&mut self, conn: u32, bytes: &[u8]) -> Result<usize, SendFault>
         requires { IsOpen conn (ports_state self.old).told }
-        ensures told { Sends conn bytes.now result (ports_state self.old).told (ports_state self.new).told }
+        ensures told { Sends conn bytes.now result (ports_state self.old).told
+            (ports_state self.new).told }
         ensures count { IfOk result (λ n. n ≤ length bytes.now) }
-        ensures cause { SendCounts (ports_state self.old).faults (ports_state self.new).faults result }
+        ensures cause { SendCounts (ports_state self.old).faults
+            (ports_state self.new).faults result }
         ensures exact { SendsHeld self.old self.new conn bytes.now result }
     {
         self.take_in(conn, bytes)

@@ -29,7 +29,11 @@ impl Model for Script {
 
     ghost Value = { ScriptHeld };
 
-    ghost view = { λ s. record { steps = drop s.place s.steps.items; used = s.used; ready = s.ready } };
+    ghost view = { λ s. record {
+      steps = drop s.place s.steps.items;
+      used = s.used;
+      ready = s.ready;
+    } };
 
     ghost invariant = { λ s. list_all has_piece (drop s.place s.steps.items) ≡ true };
 }

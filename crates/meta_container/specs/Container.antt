@@ -35,7 +35,8 @@ layout m index tiles =
 abbrev pub head_len : ℕ
 head_len = 532
 
--- the index places are 64, by columns of 8: does a metatile with so many tiles side by side have one there?
+-- the index places are 64, by columns of 8: does a metatile with so many tiles side by side have
+-- one there?
 abbrev pub has_tile : ℕ → ℕ → Bool
 has_tile across place = nat_lt (place / 8) across && nat_lt (place % 8) across
 
@@ -43,12 +44,15 @@ has_tile across place = nat_lt (place / 8) across && nat_lt (place % 8) across
 abbrev pub rank : ℕ → ℕ → ℕ
 rank across place = place / 8 * across + place % 8
 
--- the pair of a place: the tiles stand in order of their places behind the head, and a place without
--- a tile has zeros
+-- the pair of a place: the tiles stand in order of their places behind the head, and a place
+-- without a tile has zeros
 abbrev pub span_at : ℕ → List (List ℕ) → ℕ → Span
 span_at across tiles place =
     if has_tile across place
-    then record { offset = head_len + bytes_of (take (rank across place) tiles); size = length (slice_index_or tiles (rank across place) []) }
+    then record {
+      offset = head_len + bytes_of (take (rank across place) tiles);
+      size = length (slice_index_or tiles (rank across place) []);
+    }
     else record { offset = 0; size = 0 }
 
 -- the pairs of the first places, in order
@@ -63,7 +67,8 @@ container_of m tiles = layout m (index_below (tiles_across m) tiles 64) tiles
 abbrev pub is_stored : List ℕ → Bool
 is_stored tile = nat_lt 0 (length tile)
 
--- what can be encoded: as many tiles as the metatile has, none of them empty, together under 2^31 bytes
+-- what can be encoded: as many tiles as the metatile has, none of them empty, together under 2^31
+-- bytes
 pub record AreTilesOf (m : Meta) (tiles : List (List ℕ)) : Type 0 where
   pub meta : IsMeta m
   pub count : length tiles ≡ tiles_across m * tiles_across m

@@ -11,18 +11,24 @@ use Rattle.meta_container.specs.Container.{AreTilesOf, container_of}
 use Rattle.meta_container.specs.Reading.{tile_found}
 use Rattle.meta_container.specs.Laws.{meta_tile}
 
--- The drawings of a metatile's tiles, in order of index place, can be encoded: they are as many as the
--- metatile has, none is empty, and together they are under 2^31 bytes.
+-- The drawings of a metatile's tiles, in order of index place, can be encoded: they are as many as
+-- the metatile has, none is empty, and together they are under 2^31 bytes.
 abbrev pub DrawnAreTiles : Type 0
-DrawnAreTiles = (style : MapStyle) (size : ℕ) (m : Meta) (data_layers : List Layer) → IsMeta m → IsTileSize size
+DrawnAreTiles = (style : MapStyle) (size : ℕ) (m : Meta) (data_layers : List Layer) → IsMeta m
+    → IsTileSize size
     → AreTilesOf m (tiles_of style size m data_layers)
 
--- Among the drawings of a metatile's tiles, the one at the place of a tile is the drawing of that tile.
+-- Among the drawings of a metatile's tiles, the one at the place of a tile is the drawing of that
+-- tile.
 abbrev pub DrawnInPlace : Type 0
-DrawnInPlace = (style : MapStyle) (size : ℕ) (m : Meta) (data_layers : List Layer) (t : Tile) → IsTile t → meta_of t ≡ m
-    → meta_tile m (tiles_of style size m data_layers) t ≡ drawing.drawn_tile style size t data_layers
+DrawnInPlace = (style : MapStyle) (size : ℕ) (m : Meta) (data_layers : List Layer) (t : Tile)
+    → IsTile t → meta_of t ≡ m
+    → meta_tile m (tiles_of style size m data_layers) t
+    ≡ drawing.drawn_tile style size t data_layers
 
 -- What is read as a tile in the container of its drawn metatile is the drawing of that tile.
 abbrev pub DrawnComeBack : Type 0
-DrawnComeBack = (style : MapStyle) (size : ℕ) (m : Meta) (data_layers : List Layer) (t : Tile) → IsMeta m → IsTileSize size → IsTile t → meta_of t ≡ m
-    → tile_found (container_of m (tiles_of style size m data_layers)) m (index_place t) ≡ Ok (drawing.drawn_tile style size t data_layers)
+DrawnComeBack = (style : MapStyle) (size : ℕ) (m : Meta) (data_layers : List Layer) (t : Tile)
+    → IsMeta m → IsTileSize size → IsTile t → meta_of t ≡ m
+    → tile_found (container_of m (tiles_of style size m data_layers)) m (index_place t)
+    ≡ Ok (drawing.drawn_tile style size t data_layers)

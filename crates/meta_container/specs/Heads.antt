@@ -9,7 +9,9 @@ use Rattle.meta_container.specs.Container.{tile_bytes, container_of}
 abbrev pub all_of_size : ℕ → List (List ℕ) → Bool
 all_of_size size tiles = list_all (λ tile. length tile == size) tiles
 
--- What was appended is a head: with a metatile's tiles behind it, each of this size and one after another, it is their container.
+-- What was appended is a head: with a metatile's tiles behind it, each of this size and one after
+-- another, it is their container.
 abbrev pub IsHead : Meta → ℕ → List ℕ → List ℕ → Type 0
-IsHead m size old new = (tiles : List (List ℕ)) → length tiles ≡ tiles_across m * tiles_across m → IsTrue (all_of_size size tiles)
+IsHead m size old new = (tiles : List (List ℕ)) → length tiles ≡ tiles_across m * tiles_across m
+    → IsTrue (all_of_size size tiles)
     → new ++ tile_bytes tiles ≡ old ++ container_of m tiles

@@ -1,6 +1,6 @@
 -- What is read of bytes as a META container, and the first fault of those that are none. The faults
--- come in the order of reading: the length of the mark, the mark, the length of the head, the count,
--- the place, and the pairs.
+-- come in the order of reading: the length of the mark, the mark, the length of the head, the
+-- count, the place, and the pairs.
 use Rattle.std.specs.Prelude.{◌≡◌, ℕ, ◌+◌, ◌*◌, ◌%◌, ◌^◌, ◌==◌, ◌&&◌, ◌||◌, not, Bool, List, length, take, drop, map, filter, find, codes, nat_lt, nat_le, Option, Some, None, Result, Ok, Err, option_map, if◌then◌else◌}
 use Rattle.std.specs.List.{range_with_len}
 use Rattle.std.specs.Str.{bytes_eq}
@@ -45,11 +45,16 @@ same_meta m n = m.x == n.x && (m.y == n.y && m.z == n.z)
 
 -- is this a metatile: zoom at most 18, column and row below 2^z and multiples of 8?
 abbrev pub is_meta : Meta → Bool
-is_meta m = nat_le m.z 18 && nat_lt m.x (2 ^ m.z) && nat_lt m.y (2 ^ m.z) && m.x % 8 == 0 && m.y % 8 == 0
+is_meta m =
+    nat_le m.z 18 && nat_lt m.x (2 ^ m.z) && nat_lt m.y (2 ^ m.z) && m.x % 8 == 0 && m.y % 8 == 0
 
 -- the pair of a place
 abbrev pub entry_at : List ℕ → ℕ → Entry
-entry_at bytes place = record { place = place; offset = number_at (20 + 8 * place) bytes; size = number_at (24 + 8 * place) bytes }
+entry_at bytes place = record {
+  place = place;
+  offset = number_at (20 + 8 * place) bytes;
+  size = number_at (24 + 8 * place) bytes;
+}
 
 -- the pair names a tile: its size is not 0
 abbrev pub is_present : Entry → Bool
@@ -84,7 +89,8 @@ tile_found bytes m place =
     if not (is_present entry) || is_wild (length bytes) entry then Err (Index place)
     else Ok (take entry.size (drop entry.offset bytes))))
 
--- the pair of a tile in the head of the container of a metatile; the bytes behind the head are not there
+-- the pair of a tile in the head of the container of a metatile; the bytes behind the head are not
+-- there
 unfoldable pub entry_found : List ℕ → Meta → ℕ → Result Entry MetaFault
 entry_found head m place =
     unless (head_fault head) (unless (place_fault head m)
@@ -106,7 +112,8 @@ first_wild len entries = option_map (λ entry. Index entry.place) (find (is_wild
 -- the metatile of a container and its tiles' pairs
 unfoldable pub listing_found : List ℕ → Result Listing MetaFault
 listing_found bytes =
-    unless (head_fault bytes) (unless (no_place_fault bytes) (unless (first_wild (length bytes) (entries_in bytes))
+    unless (head_fault bytes)
+    (unless (no_place_fault bytes) (unless (first_wild (length bytes) (entries_in bytes))
     (Ok (record { meta = head_meta bytes; entries = record { items = entries_in bytes } }))))
 
 -- what a reader that hands out a part of the bytes answers

@@ -43,7 +43,8 @@ pub fn put_head(out: &mut Vec<u8>, m: Meta, size: u32) -> Result<(), NoMemory>
 }
 
 fn put_mark(out: &mut Vec<u8>, m: Meta) -> Result<(), NoMemory>
-    ensures { OnOk result (out.new.items ≡ out.old.items ++ codes "META" ++ little_bytes 4 64 ++ little_bytes 4 m.x ++ little_bytes 4 m.y ++ little_bytes 4 m.z) }
+    ensures { OnOk result (out.new.items ≡ out.old.items ++ codes "META" ++ little_bytes 4 64
+        ++ little_bytes 4 m.x ++ little_bytes 4 m.y ++ little_bytes 4 m.z) }
 {
     out.extend_from_slice(b"META")?;
     put_number(out, PLACES as u32)?;
@@ -87,7 +88,8 @@ fn span_at(across: u32, tiles: &[Bytes], place: u32) -> Span
 fn even_span(across: u32, size: u32, place: u32) -> Span
     requires few { across ≤ 8 }
     requires size { size < 2 ^ 25 }
-    ensures { (tiles : List (List ℕ)) → length tiles ≡ across * across → IsTrue (all_of_size size tiles) → result ≡ span_at across tiles place }
+    ensures { (tiles : List (List ℕ)) → length tiles ≡ across * across
+        → IsTrue (all_of_size size tiles) → result ≡ span_at across tiles place }
 {
     if !has_tile(across, place) {
         return Span { offset: 0, size: 0 };
@@ -120,7 +122,8 @@ fn put_index(out: &mut Vec<u8>, across: u32, tiles: &[Bytes]) -> Result<(), NoMe
     requires few { across ≤ 8 }
     requires count { length tiles.now ≡ across * across }
     requires short { bytes_of tiles.now < 2 ^ 31 }
-    ensures { OnOk result (out.new.items ≡ out.old.items ++ flat_map span_bytes (index_below across tiles.now 64)) }
+    ensures { OnOk result
+        (out.new.items ≡ out.old.items ++ flat_map span_bytes (index_below across tiles.now 64)) }
 {
     for place in 0..PLACES as u32 {
         put_span(out, span_at(across, tiles, place))?;
@@ -131,7 +134,8 @@ fn put_index(out: &mut Vec<u8>, across: u32, tiles: &[Bytes]) -> Result<(), NoMe
 fn put_even_index(out: &mut Vec<u8>, across: u32, size: u32) -> Result<(), NoMemory>
     requires few { across ≤ 8 }
     requires size { size < 2 ^ 25 }
-    ensures { OnOk result ((tiles : List (List ℕ)) → length tiles ≡ across * across → IsTrue (all_of_size size tiles)
+    ensures { OnOk result
+        ((tiles : List (List ℕ)) → length tiles ≡ across * across → IsTrue (all_of_size size tiles)
         → out.new.items ≡ out.old.items ++ flat_map span_bytes (index_below across tiles 64)) }
 {
     for place in 0..PLACES as u32 {

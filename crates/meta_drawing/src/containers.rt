@@ -48,7 +48,8 @@ fn put_column(
     requires col { col < across }
     requires cols { image.now.cols ≡ size * across }
     requires rows { image.now.rows ≡ size * across }
-    ensures { OnOk result (out.new.items ≡ out.old.items ++ tile_bytes (column_texts image.now size across col)) }
+    ensures { OnOk result
+        (out.new.items ≡ out.old.items ++ tile_bytes (column_texts image.now size across col)) }
 {
     for row in 0..across {
         image.put_part(col * size, row * size, size, size, out)?;
@@ -61,7 +62,8 @@ fn put_tiles(image: &TiledImage, size: u32, across: u32, out: &mut Vec<u8>) -> R
     requires few_across { across ≤ 8 }
     requires cols { image.now.cols ≡ size * across }
     requires rows { image.now.rows ≡ size * across }
-    ensures { OnOk result (out.new.items ≡ out.old.items ++ tile_bytes (part_texts image.now size across)) }
+    ensures { OnOk result
+        (out.new.items ≡ out.old.items ++ tile_bytes (part_texts image.now size across)) }
 {
     for col in 0..across {
         put_column(image, size, across, col, out)?;
@@ -73,7 +75,8 @@ fn head_of(alloc: Global, size: u32, m: Meta) -> Result<Vec<u8>, NoMemory>
     requires size { IsTileSize size }
     requires meta { IsMeta m }
     ensures { (style : MapStyle) (layers : List Layer)
-        → IfOk result (λ v. v.items ++ tile_bytes (tiles_of style size m layers) ≡ container_of m (tiles_of style size m layers)) }
+        → IfOk result (λ v. v.items ++ tile_bytes (tiles_of style size m layers)
+        ≡ container_of m (tiles_of style size m layers)) }
 {
     let mut head = Vec::with_capacity(alloc, HEAD_BYTES)?;
     put_head(&mut head, m, text_len(size))?;

@@ -14,10 +14,14 @@ rgb r g b = record { r = r; g = g; b = b }
 -- the sixteen colours that have a name
 abbrev pub colour_names : List (List ℕ × Colour)
 colour_names =
-    (codes "aqua", rgb 0 255 255) ∷ (codes "black", rgb 0 0 0) ∷ (codes "blue", rgb 0 0 255) ∷ (codes "fuchsia", rgb 255 0 255)
-    ∷ (codes "gray", rgb 128 128 128) ∷ (codes "green", rgb 0 128 0) ∷ (codes "lime", rgb 0 255 0) ∷ (codes "maroon", rgb 128 0 0)
-    ∷ (codes "navy", rgb 0 0 128) ∷ (codes "olive", rgb 128 128 0) ∷ (codes "purple", rgb 128 0 128) ∷ (codes "red", rgb 255 0 0)
-    ∷ (codes "silver", rgb 192 192 192) ∷ (codes "teal", rgb 0 128 128) ∷ (codes "white", rgb 255 255 255) ∷ (codes "yellow", rgb 255 255 0) ∷ []
+    (codes "aqua", rgb 0 255 255) ∷ (codes "black", rgb 0 0 0) ∷ (codes "blue", rgb 0 0 255)
+    ∷ (codes "fuchsia", rgb 255 0 255)
+    ∷ (codes "gray", rgb 128 128 128) ∷ (codes "green", rgb 0 128 0) ∷ (codes "lime", rgb 0 255 0)
+    ∷ (codes "maroon", rgb 128 0 0)
+    ∷ (codes "navy", rgb 0 0 128) ∷ (codes "olive", rgb 128 128 0) ∷ (codes "purple", rgb 128 0 128)
+    ∷ (codes "red", rgb 255 0 0)
+    ∷ (codes "silver", rgb 192 192 192) ∷ (codes "teal", rgb 0 128 128)
+    ∷ (codes "white", rgb 255 255 255) ∷ (codes "yellow", rgb 255 255 0) ∷ []
 
 -- the colour of this name, if it is one of the sixteen
 unfoldable pub colour_by_name : List ℕ → Option Colour
@@ -33,16 +37,19 @@ hex c = if is_digit c then Some (c - 48) else
 
 -- two hexadecimal digits of a channel of this value
 abbrev pub IsChannel : ℕ → ℕ → ℕ → Type 0
-IsChannel high low n = (x : ℕ) × (y : ℕ) × (hex high ≡ Some x) × (hex low ≡ Some y) × (n ≡ 16 * x + y)
+IsChannel high low n =
+    (x : ℕ) × (y : ℕ) × (hex high ≡ Some x) × (hex low ≡ Some y) × (n ≡ 16 * x + y)
 
 -- a hash and three hexadecimal digits, each of them doubled
 abbrev pub IsShortHash : List ℕ → Colour → Type 0
-IsShortHash text c = (r : ℕ) × (g : ℕ) × (b : ℕ) × (text ≡ codes "#" ++ r ∷ g ∷ b ∷ []) × IsChannel r r c.r × IsChannel g g c.g × IsChannel b b c.b
+IsShortHash text c = (r : ℕ) × (g : ℕ) × (b : ℕ) × (text ≡ codes "#" ++ r ∷ g ∷ b ∷ [])
+    × IsChannel r r c.r × IsChannel g g c.g × IsChannel b b c.b
 
 -- a hash and six hexadecimal digits
 abbrev pub IsLongHash : List ℕ → Colour → Type 0
 IsLongHash text c =
-    (r : ℕ) × (s : ℕ) × (g : ℕ) × (h : ℕ) × (b : ℕ) × (d : ℕ) × (text ≡ codes "#" ++ r ∷ s ∷ g ∷ h ∷ b ∷ d ∷ []) × IsChannel r s c.r × IsChannel g h c.g × IsChannel b d c.b
+    (r : ℕ) × (s : ℕ) × (g : ℕ) × (h : ℕ) × (b : ℕ) × (d : ℕ) × (text ≡ codes "#" ++ r ∷ s ∷ g ∷ h
+    ∷ b ∷ d ∷ []) × IsChannel r s c.r × IsChannel g h c.g × IsChannel b d c.b
 
 -- the byte of a space
 abbrev pub is_space : ℕ → Bool
@@ -65,11 +72,13 @@ pub record IsPart (text : List ℕ) (n : ℕ) : Type 0 where
 -- `rgb(`, three numbers with commas between them, and `)`
 abbrev pub IsMixed : List ℕ → Colour → Type 0
 IsMixed text c =
-    (r : List ℕ) × (g : List ℕ) × (b : List ℕ) × (text ≡ codes "rgb(" ++ r ++ codes "," ++ g ++ codes "," ++ b ++ codes ")") × IsPart r c.r × IsPart g c.g × IsPart b c.b
+    (r : List ℕ) × (g : List ℕ) × (b : List ℕ) × (text ≡ codes "rgb(" ++ r ++ codes "," ++ g
+    ++ codes "," ++ b ++ codes ")") × IsPart r c.r × IsPart g c.g × IsPart b c.b
 
 -- a text of this colour: one of the three, or one of the sixteen names
 abbrev pub IsColour : List ℕ → Colour → Type 0
-IsColour text c = IsShortHash text c ⊎ (IsLongHash text c ⊎ (IsMixed text c ⊎ Contains colour_names (text, c)))
+IsColour text c =
+    IsShortHash text c ⊎ (IsLongHash text c ⊎ (IsMixed text c ⊎ Contains colour_names (text, c)))
 
 -- ---- the colour of a text, as a function
 
@@ -88,8 +97,10 @@ three_channels None g b = None
 
 -- the colour of three hexadecimal digits, each of them doubled, or of six
 unfoldable pub channels : List ℕ → Option Colour
-channels (r ∷ g ∷ b ∷ []) = three_channels (two_digits (hex r) (hex r)) (two_digits (hex g) (hex g)) (two_digits (hex b) (hex b))
-channels (r ∷ s ∷ g ∷ h ∷ b ∷ c ∷ []) = three_channels (two_digits (hex r) (hex s)) (two_digits (hex g) (hex h)) (two_digits (hex b) (hex c))
+channels (r ∷ g ∷ b ∷ []) = three_channels (two_digits (hex r) (hex r)) (two_digits (hex g) (hex g))
+    (two_digits (hex b) (hex b))
+channels (r ∷ s ∷ g ∷ h ∷ b ∷ c ∷ []) = three_channels (two_digits (hex r) (hex s))
+    (two_digits (hex g) (hex h)) (two_digits (hex b) (hex c))
 channels _ = None
 
 -- the rest of a text that begins with this byte
@@ -105,15 +116,19 @@ hash_colour text = option_and_then channels (behind 35 text)
 abbrev pub without_spaces : List ℕ → List ℕ
 without_spaces text = drop (prefix_len is_space text) text
 
--- a number of so many digits, one to three of them and up to 255, and what stands behind the sign that ends it
+-- a number of so many digits, one to three of them and up to 255, and what stands behind the sign
+-- that ends it
 abbrev pub part_of : ℕ → ℕ → List ℕ → Option (ℕ × List ℕ)
 part_of sign len text =
     if nat_le 1 len && nat_le len 3 && nat_le (number (take len text)) 255
-    then option_map (λ rest. (number (take len text), rest)) (behind sign (without_spaces (drop len text))) else None
+    then option_map (λ rest. (number (take len text), rest))
+    (behind sign (without_spaces (drop len text))) else None
 
--- the number at the front of a text, with spaces round it, and what stands behind the sign that ends it
+-- the number at the front of a text, with spaces round it, and what stands behind the sign that
+-- ends it
 unfoldable pub number_before : ℕ → List ℕ → Option (ℕ × List ℕ)
-number_before sign text = part_of sign (prefix_len is_digit (without_spaces text)) (without_spaces text)
+number_before sign text =
+    part_of sign (prefix_len is_digit (without_spaces text)) (without_spaces text)
 
 -- the colour of three numbers, where nothing follows them
 abbrev pub only : ℕ → ℕ → ℕ → List ℕ → Option Colour
@@ -122,7 +137,8 @@ only r g b (c ∷ rest) = None
 
 -- the colour of three numbers that two commas and a parenthesis end
 unfoldable pub parts : List ℕ → Option Colour
-parts text = option_and_then (λ r. option_and_then (λ g. option_and_then (λ b. only r.0 g.0 b.0 b.1) (number_before 41 g.1)) (number_before 44 r.1)) (number_before 44 text)
+parts text = option_and_then (λ r. option_and_then (λ g. option_and_then (λ b. only r.0 g.0 b.0 b.1)
+    (number_before 41 g.1)) (number_before 44 r.1)) (number_before 44 text)
 
 -- the colour of a text that begins with `rgb(` and goes on with three numbers
 unfoldable pub rgb_colour : List ℕ → Option Colour

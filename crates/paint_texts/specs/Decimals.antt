@@ -9,7 +9,8 @@ number ds = number_after 0 ds
 
 -- a whole part and a fraction as a count of the parts of which 10^places make one
 unfoldable pub fixed_point : ℕ → List ℕ → List ℕ → ℕ
-fixed_point places whole fraction = number whole * 10 ^ places + number fraction * 10 ^ (places - length fraction)
+fixed_point places whole fraction =
+    number whole * 10 ^ places + number fraction * 10 ^ (places - length fraction)
 
 -- The grammar: up to 12 digits, then maybe a point and up to so many digits. The whole part may be
 -- missing where a fraction stands, and one of the two must be there. A point has a digit behind it.
@@ -20,18 +21,24 @@ pub record IsDecimal (places : ℕ) (text : List ℕ) (n : ℕ) : Type 0 where
   pub fraction_digits : list_all is_digit fraction ≡ true
   pub whole_fits : length whole ≤ 12
   pub fraction_fits : length fraction ≤ places
-  pub spelled : ((text ≡ whole) × (1 ≤ length whole) × (fraction ≡ [])) ⊎ ((text ≡ whole ++ 46 ∷ fraction) × (1 ≤ length fraction))
+  pub spelled : ((text ≡ whole) × (1 ≤ length whole) × (fraction ≡ []))
+      ⊎ ((text ≡ whole ++ 46 ∷ fraction) × (1 ≤ length fraction))
   pub value : n ≡ fixed_point places whole fraction
 
--- the number of the digits at the front and of what stands behind them, if the two are a decimal text
+-- the number of the digits at the front and of what stands behind them, if the two are a decimal
+-- text
 abbrev pub fixed_point_in : ℕ → List ℕ → List ℕ → Option ℕ
-fixed_point_in places whole [] = if nat_le 1 (length whole) && nat_le (length whole) 12 then Some (fixed_point places whole []) else None
+fixed_point_in places whole [] = if nat_le 1 (length whole) && nat_le (length whole) 12
+    then Some (fixed_point places whole []) else None
 fixed_point_in places whole (c ∷ fraction) =
-    if (c == 46) && nat_le (length whole) 12 && list_all is_digit fraction && nat_le 1 (length fraction) && nat_le (length fraction) places then Some (fixed_point places whole fraction) else None
+    if (c == 46) && nat_le (length whole) 12 && list_all is_digit fraction
+    && nat_le 1 (length fraction) && nat_le (length fraction) places
+    then Some (fixed_point places whole fraction) else None
 
 -- the number that a decimal text says, in parts of which 10^places make one
 unfoldable pub decimal_of : ℕ → List ℕ → Option ℕ
-decimal_of places text = fixed_point_in places (take (prefix_len is_digit text) text) (drop (prefix_len is_digit text) text)
+decimal_of places text = fixed_point_in places (take (prefix_len is_digit text) text)
+    (drop (prefix_len is_digit text) text)
 
 -- the number that a decimal text says, in hundredths
 abbrev pub hundredths_of : List ℕ → Option ℕ

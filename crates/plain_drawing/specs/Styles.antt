@@ -12,7 +12,8 @@ use Rattle.plain_shapes.specs.Limits.{most_name_bytes, most_width}
 use Rattle.plain_drawing.specs.Limits.{most_styles, most_rules, most_symbolizers, most_map_layers, most_rasters, most_file_bytes}
 use Rattle.plain_drawing.specs.Grids.{Grid}
 
--- a rule: its filter, if it has one, whether it is an ElseFilter rule, its scales in hundredths, what it paints
+-- a rule: its filter, if it has one, whether it is an ElseFilter rule, its scales in hundredths,
+-- what it paints
 pub record Rule : Type 0 where
   pub filter : Option FilterTree
   pub else_filter : Bool
@@ -26,7 +27,8 @@ pub record Style : Type 0 where
   pub filter_mode : FilterMode
   pub rules : List Rule
 
--- a layer of a map: its name, the data layer or raster that it draws, its scales in hundredths, the names of its styles
+-- a layer of a map: its name, the data layer or raster that it draws, its scales in hundredths, the
+-- names of its styles
 pub record LayerRef : Type 0 where
   pub name : List ℕ
   pub source : List ℕ
@@ -66,7 +68,8 @@ is_opacity a = nat_le a 1000
 abbrev pub is_paint : Symbolizer → Bool
 is_paint (Polygon fill opacity) = is_opacity opacity
 is_paint (Line stroke width opacity cap) = is_width width && is_opacity opacity
-is_paint (Markers fill width height opacity) = is_width width && is_width height && is_opacity opacity
+is_paint (Markers fill width height opacity) =
+    is_width width && is_width height && is_opacity opacity
 is_paint (Raster opacity) = is_opacity opacity
 
 -- every symbolizer of the style keeps its ranges
@@ -95,11 +98,13 @@ raster_apart before r = not (raster_has r.name before)
 
 -- no earlier layer has the name, and each style that the layer names is there
 abbrev pub layer_apart : List Style → List LayerRef → LayerRef → Bool
-layer_apart styles before l = not (layer_has l.name before) && list_all (λ name. style_has name styles) l.styles
+layer_apart styles before l =
+    not (layer_has l.name before) && list_all (λ name. style_has name styles) l.styles
 
 -- the grid has the raster's name, place and pixel
 abbrev pub grid_matches : RasterRef → Grid → Bool
-grid_matches r g = bytes_eq r.name g.name && r.west == g.west && r.north == g.north && r.pixel == g.pixel
+grid_matches r g =
+    bytes_eq r.name g.name && r.west == g.west && r.north == g.north && r.pixel == g.pixel
 
 -- as many grids as rasters, each matching the raster at its place
 abbrev pub grids_match : List RasterRef → List Grid → Bool
@@ -113,8 +118,10 @@ abbrev pub are_bound : List RasterRef → List Grid → Bool
 are_bound rasters [] = true
 are_bound rasters (g ∷ gs) = grids_match rasters (g ∷ gs)
 
--- what every rule keeps: no filter beside ElseFilter, and at most 16 symbolizers within their ranges
-pub record IsRule (else_filter : Bool) (filter : Option FilterTree) (symbolizers : List Symbolizer) : Type 0 where
+-- what every rule keeps: no filter beside ElseFilter, and at most 16 symbolizers within their
+-- ranges
+pub record IsRule (else_filter : Bool) (filter : Option FilterTree)
+    (symbolizers : List Symbolizer) : Type 0 where
   pub one_kind : IsTrue (not (else_filter && is_some filter))
   pub few : length symbolizers ≤ most_symbolizers
   pub paints : IsTrue (list_all is_paint symbolizers)
@@ -129,7 +136,8 @@ pub record IsLayerRef (name source : List ℕ) : Type 0 where
   pub name_fits : IsTrue (is_text_to most_name_bytes name)
   pub source_fits : IsTrue (is_text_to most_name_bytes source)
 
--- what every raster of a map keeps: a name of 1 to 64 bytes, a file of 1 to 100, a place in the world, a pixel of 1 to 2^30 units
+-- what every raster of a map keeps: a name of 1 to 64 bytes, a file of 1 to 100, a place in the
+-- world, a pixel of 1 to 2^30 units
 pub record IsRasterRef (name file : List ℕ) (west north pixel : ℕ) : Type 0 where
   pub name_fits : IsTrue (is_text_to most_name_bytes name)
   pub file_fits : IsTrue (is_text_to most_file_bytes file)
@@ -138,8 +146,10 @@ pub record IsRasterRef (name file : List ℕ) (west north pixel : ℕ) : Type 0 
   pub some_pixel : 1 ≤ pixel
   pub pixel_fits : pixel ≤ 2 ^ 30
 
--- what every map style keeps: at most 256 styles, 64 layers and 2 rasters with distinct names, each named style there, grids bound or none
-pub record IsMapStyle (styles : List Style) (layers : List LayerRef) (rasters : List RasterRef) (grids : List Grid) : Type 0 where
+-- what every map style keeps: at most 256 styles, 64 layers and 2 rasters with distinct names, each
+-- named style there, grids bound or none
+pub record IsMapStyle (styles : List Style) (layers : List LayerRef) (rasters : List RasterRef)
+    (grids : List Grid) : Type 0 where
   pub few_styles : length styles ≤ most_styles
   pub few_layers : length layers ≤ most_map_layers
   pub few_rasters : length rasters ≤ most_rasters

@@ -77,7 +77,8 @@ impl Model for Rule {
       symbolizers = r.symbolizers.items;
     } };
 
-    ghost invariant = { λ r. IsRule r.else_filter (option_map tree_of r.filter) r.symbolizers.items };
+    ghost invariant = { λ r. IsRule r.else_filter (option_map tree_of r.filter)
+        r.symbolizers.items };
 }
 
 // Makes known what a rule keeps: its symbolizers are within their ranges.

@@ -1,4 +1,5 @@
--- Filters as plain trees, and their values for the attributes of a feature (Mapnik's filter expressions).
+-- Filters as plain trees, and their values for the attributes of a feature (Mapnik's filter
+-- expressions).
 use Rattle.std.specs.Prelude.{ℕ, List, [], ◌∷◌, Bool, true, false, not, ◌&&◌, ◌||◌, ℤ}
 use Rattle.farm_base.specs.declared.Value.{Value}
 use Rattle.farm_base.specs.declared.Value.TheVariants.{Null, Truth, Whole, Text}
@@ -10,7 +11,8 @@ use Rattle.plain_filters.specs.declared.expr.SumSign.{SumSign}
 use Rattle.plain_filters.specs.declared.expr.ProductSign.{ProductSign}
 use Rattle.plain_filters.specs.Values.{truth, attribute, compares, sum_of, product_of, negative_of}
 
--- a filter: `or` and `and` of parts, `not`, a comparison, a sum or a product with its later parts, a minus sign, and the atoms
+-- a filter: `or` and `and` of parts, `not`, a comparison, a sum or a product with its later parts,
+-- a minus sign, and the atoms
 mutual
   pub data FilterTree : Type 0 where
     or_tree : FilterTrees → FilterTree
@@ -47,7 +49,8 @@ abbrev mutual
   tree_value attrs (or_tree parts) = Truth (any_true attrs parts)
   tree_value attrs (and_tree parts) = Truth (all_true attrs parts)
   tree_value attrs (not_tree part) = Truth (not (truth (tree_value attrs part)))
-  tree_value attrs (compare_tree a sign b) = Truth (compares sign (tree_value attrs a) (tree_value attrs b))
+  tree_value attrs (compare_tree a sign b) =
+      Truth (compares sign (tree_value attrs a) (tree_value attrs b))
   tree_value attrs (sum_tree first later) = after_sums attrs (tree_value attrs first) later
   tree_value attrs (product_tree first later) = after_products attrs (tree_value attrs first) later
   tree_value attrs (negate_tree part) = negative_of (tree_value attrs part)
@@ -70,12 +73,14 @@ abbrev mutual
   -- a value with the later parts of a sum, from the left
   pub after_sums : List Attr → Value → SumTrees → Value
   after_sums attrs v no_sums = v
-  after_sums attrs v (sum_then sign part later) = after_sums attrs (sum_of sign v (tree_value attrs part)) later
+  after_sums attrs v (sum_then sign part later) =
+      after_sums attrs (sum_of sign v (tree_value attrs part)) later
 
   -- a value with the later parts of a product, from the left
   pub after_products : List Attr → Value → ProductTrees → Value
   after_products attrs v no_products = v
-  after_products attrs v (product_then sign part later) = after_products attrs (product_of sign v (tree_value attrs part)) later
+  after_products attrs v (product_then sign part later) =
+      after_products attrs (product_of sign v (tree_value attrs part)) later
 
 -- the filter holds where its value counts as true
 abbrev pub tree_holds : List Attr → FilterTree → Bool
@@ -97,7 +102,8 @@ products_of [] = no_products
 products_of (p ∷ ps) = product_then p.0 p.1 (products_of ps)
 
 -- one node of an expression, its parts being their trees
-abbrev pub tree_step : open.Expr-F FilterTree (ProductSign × FilterTree) (SumSign × FilterTree) → FilterTree
+abbrev pub tree_step : open.Expr-F FilterTree (ProductSign × FilterTree) (SumSign × FilterTree)
+    → FilterTree
 tree_step (open.Or parts) = or_tree (trees_of parts.items)
 tree_step (open.And parts) = and_tree (trees_of parts.items)
 tree_step (open.Not e) = not_tree e.value
@@ -112,13 +118,16 @@ tree_step (open.Truth b) = truth_tree b
 tree_step open.Null = null_tree
 
 -- a later part of a sum: its sign, and its tree
-abbrev pub sum_part_step : open.SumPart-F FilterTree (ProductSign × FilterTree) (SumSign × FilterTree) → SumSign × FilterTree
+abbrev pub sum_part_step : open.SumPart-F FilterTree (ProductSign × FilterTree)
+    (SumSign × FilterTree) → SumSign × FilterTree
 sum_part_step p = (p.sign, p.part)
 
 -- a later part of a product likewise
-abbrev pub product_part_step : open.ProductPart-F FilterTree (ProductSign × FilterTree) (SumSign × FilterTree) → ProductSign × FilterTree
+abbrev pub product_part_step : open.ProductPart-F FilterTree (ProductSign × FilterTree)
+    (SumSign × FilterTree) → ProductSign × FilterTree
 product_part_step p = (p.sign, p.part)
 
 -- the tree that an expression is
 abbrev pub tree_of : Expr → FilterTree
-tree_of = fold-Expr FilterTree (ProductSign × FilterTree) (SumSign × FilterTree) tree_step product_part_step sum_part_step
+tree_of = fold-Expr FilterTree (ProductSign × FilterTree) (SumSign × FilterTree)
+    tree_step product_part_step sum_part_step

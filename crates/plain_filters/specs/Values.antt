@@ -59,7 +59,8 @@ compares GreaterEqual v w = have_order v w && not (below v w)
 
 -- the whole number, or null where it is no i64
 abbrev pub whole_or_null : ℤ → Value
-whole_or_null z = if int_le (negsuc (2 ^ 63 - 1)) z && int_le z (pos (2 ^ 63 - 1)) then Whole z else Null
+whole_or_null z = if int_le (negsuc (2 ^ 63 - 1)) z && int_le z (pos (2 ^ 63 - 1))
+    then Whole z else Null
 
 -- the exact result of two whole numbers; null for other kinds
 abbrev pub of_numbers : (ℤ → ℤ → Value) → Value → Value → Value

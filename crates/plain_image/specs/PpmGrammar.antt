@@ -13,11 +13,12 @@ use Rattle.plain_image.specs.PpmText.{is_whitespace}
 abbrev pub IsBlank : List ℕ → Type 0
 IsBlank text = (b : ℕ) × (text ≡ b ∷ []) × (is_whitespace b ≡ true)
 
--- One piece or more, one after another, each a blank, or a comment with the newline that ends its line:
--- `#`, any bytes but newlines, and the newline. The last byte is a blank.
+-- One piece or more, one after another, each a blank, or a comment with the newline that ends its
+-- line: `#`, any bytes but newlines, and the newline. The last byte is a blank.
 abbrev pub IsGap : List ℕ → Type 0
 IsGap text = (pieces : List (List ℕ)) × (text ≡ concat pieces) × (1 ≤ length pieces) × All (λ piece.
-    IsBlank piece ⊎ ((words : List ℕ) × (piece ≡ 35 ∷ (words ++ 10 ∷ [])) × (list_all (λ b. not (b == 10)) words ≡ true))) pieces
+    IsBlank piece ⊎ ((words : List ℕ) × (piece ≡ 35 ∷ (words ++ 10 ∷ []))
+    × (list_all (λ b. not (b == 10)) words ≡ true))) pieces
 
 -- ---- sides
 
@@ -41,7 +42,8 @@ pub record IsPpm (text : List ℕ) (image : Pixels) : Type 0 where
   pub rows : List ℕ
   pub gap_3 : List ℕ
   pub blank : List ℕ
-  pub spelled : text ≡ codes "P6" ++ gap_1 ++ cols ++ gap_2 ++ rows ++ gap_3 ++ codes "255" ++ blank ++ flat_map pixel_bytes image.pixels
+  pub spelled : text ≡ codes "P6" ++ gap_1 ++ cols ++ gap_2 ++ rows ++ gap_3 ++ codes "255" ++ blank
+      ++ flat_map pixel_bytes image.pixels
   pub is_gap_1 : IsGap gap_1
   pub is_cols : IsNumber cols image.cols
   pub is_gap_2 : IsGap gap_2
@@ -56,15 +58,16 @@ pub record IsPpm (text : List ℕ) (image : Pixels) : Type 0 where
 abbrev pub IsBeforeCols : List ℕ → Type 0
 IsBeforeCols text = (gap : List ℕ) × (text ≡ codes "P6" ++ gap) × IsGap gap
 
--- The text begins as a PPM text up to a side, the columns, or the rows behind columns within the limit, and there stand
--- digits of more than 4,096, whatever follows.
+-- The text begins as a PPM text up to a side, the columns, or the rows behind columns within the
+-- limit, and there stand digits of more than 4,096, whatever follows.
 pub record IsTooLarge (text : List ℕ) : Type 0 where
   pub front : List ℕ
   pub side : List ℕ
   pub rest : List ℕ
   pub n : ℕ
   pub spelled : text ≡ front ++ side ++ rest
-  pub before : IsBeforeCols front ⊎ ((first : List ℕ) × (cols : List ℕ) × (gap : List ℕ) × (m : ℕ) × (front ≡ first ++ cols ++ gap)
+  pub before : IsBeforeCols front ⊎ ((first : List ℕ) × (cols : List ℕ) × (gap : List ℕ) × (m : ℕ)
+      × (front ≡ first ++ cols ++ gap)
       × IsBeforeCols first × IsNumber cols m × (m ≤ most_side) × IsGap gap)
   pub number : IsNumber side n
   pub large : most_side < n
@@ -73,9 +76,10 @@ pub record IsTooLarge (text : List ℕ) : Type 0 where
 abbrev pub BeginsPpm : List ℕ → Type 0
 BeginsPpm front = (rest : List ℕ) × (image : Pixels) × IsPpm (front ++ rest) image
 
--- The text is not too large, some PPM text begins with its first n bytes, and none begins with its first n + 1; or it ends
--- there, and is no PPM text.
+-- The text is not too large, some PPM text begins with its first n bytes, and none begins with its
+-- first n + 1; or it ends there, and is no PPM text.
 pub record IsBadAt (text : List ℕ) (n : ℕ) : Type 0 where
   pub in_limits : IsTooLarge text → ⊥
   pub begins : BeginsPpm (take n text)
-  pub ends : ((n < length text) × (BeginsPpm (take (n + 1) text) → ⊥)) ⊎ ((n ≡ length text) × ((image : Pixels) → IsPpm text image → ⊥))
+  pub ends : ((n < length text) × (BeginsPpm (take (n + 1) text) → ⊥))
+      ⊎ ((n ≡ length text) × ((image : Pixels) → IsPpm text image → ⊥))

@@ -1,5 +1,5 @@
--- What a PPM text says: each part reads the bytes from an offset of the text on, and answers the offset behind it, or the fault at
--- the first byte that may not stand where it stands.
+-- What a PPM text says: each part reads the bytes from an offset of the text on, and answers the
+-- offset behind it, or the fault at the first byte that may not stand where it stands.
 use Rattle.std.specs.Prelude.{ℕ, ◌+◌, ◌-◌, ◌*◌, ◌≡◌, ◌==◌, Bool, ◌&&◌, ◌||◌, nat_le, nat_lt, if◌then◌else◌, List, [], ◌∷◌, length, drop, Result, Ok, Err, Option, Some, None}
 use Rattle.std.specs.Option.{option_map_or}
 use Rattle.farm_base.specs.Digits.{is_digit}
@@ -14,7 +14,8 @@ use Rattle.plain_image.specs.declared.reading.Head.{Head}
 use Rattle.plain_world.specs.Limits.{most_side}
 
 -- one part after another: the first fault is the answer
-abbrev pub and_then : {A B : Type 0} → Result A PpmFault → (A → Result B PpmFault) → Result B PpmFault
+abbrev pub and_then : {A B : Type 0} → Result A PpmFault → (A → Result B PpmFault)
+    → Result B PpmFault
 and_then (Ok a) f = f a
 and_then (Err e) f = Err e
 
@@ -35,8 +36,10 @@ one_blank n (b ∷ bs) = if is_whitespace b then Ok (n + 1) else Err (Bad n)
 -- the place in a gap after a byte of it, or none where the byte is neither a blank nor in a comment
 abbrev pub after_in_gap : Gap → ℕ → Option Gap
 after_in_gap Comment b = if b == 10 then Some Blank else Some Comment
-after_in_gap Bare b = if is_whitespace b then Some Blank else (if b == 35 then Some Comment else None)
-after_in_gap Blank b = if is_whitespace b then Some Blank else (if b == 35 then Some Comment else None)
+after_in_gap Bare b = if is_whitespace b then Some Blank
+    else (if b == 35 then Some Comment else None)
+after_in_gap Blank b = if is_whitespace b then Some Blank
+    else (if b == 35 then Some Comment else None)
 
 -- the end of a gap: a number may stand there if a blank stands before it
 abbrev pub gap_end : Gap → ℕ → Result ℕ PpmFault
@@ -44,17 +47,20 @@ gap_end Blank n = Ok n
 gap_end Bare n = Err (Bad n)
 gap_end Comment n = Err (Bad n)
 
--- blanks, and comments from # to before the line's end, at least one blank among them: up to the next other byte
+-- blanks, and comments from # to before the line's end, at least one blank among them: up to the
+-- next other byte
 abbrev pub gap : Gap → ℕ → List ℕ → Result ℕ PpmFault
 gap place n [] = Err (Bad n)
-gap place n (b ∷ bs) = option_map_or (λ next. gap next (n + 1) bs) (after_in_gap place b) (gap_end place n)
+gap place n (b ∷ bs) =
+    option_map_or (λ next. gap next (n + 1) bs) (after_in_gap place b) (gap_end place n)
 
 -- further digits of a side that is v so far: too large as soon as they pass 4,096
 abbrev pub digits : ℕ → ℕ → List ℕ → Result Side PpmFault
 digits v n [] = Ok (record { value = v; next = n })
 digits v n (b ∷ bs) =
     if is_digit b
-    then (if nat_lt most_side (v * 10 + (b - 48)) then Err TooLarge else digits (v * 10 + (b - 48)) (n + 1) bs)
+    then (if nat_lt most_side (v * 10 + (b - 48)) then Err TooLarge
+    else digits (v * 10 + (b - 48)) (n + 1) bs)
     else Ok (record { value = v; next = n })
 
 -- a side: digits without a leading zero
@@ -99,7 +105,8 @@ colours (r ∷ g ∷ b ∷ bs) = record { r = r; g = g; b = b } ∷ colours bs
 abbrev pub picture_behind : List ℕ → Head → Result Pixels PpmFault
 picture_behind bytes h =
     if nat_lt (length bytes) (h.start + h.rows * h.cols * 3) then Err (Bad (length bytes))
-    else (if nat_lt (h.start + h.rows * h.cols * 3) (length bytes) then Err (Bad (h.start + h.rows * h.cols * 3))
+    else (if nat_lt (h.start + h.rows * h.cols * 3) (length bytes)
+    then Err (Bad (h.start + h.rows * h.cols * 3))
     else Ok (record { cols = h.cols; rows = h.rows; pixels = colours (drop h.start bytes) }))
 
 -- the image that a PPM text says, or its first fault

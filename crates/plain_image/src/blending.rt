@@ -64,7 +64,8 @@ pub fn paint_run(s: Colour, opacity: u32, start: usize, end: usize, bytes: &mut 
     requires order { start ≤ end }
     requires inside { end ≤ length (colours bytes.old) }
     requires few { length (colours bytes.old) ≤ most_side * most_side }
-    ensures { bytes.new ≡ flat_map pixel_bytes (run_changed (blend s opacity) start (end - start) (colours bytes.old)) }
+    ensures { bytes.new ≡ flat_map pixel_bytes
+        (run_changed (blend s opacity) start (end - start) (colours bytes.old)) }
 {
     for k in start..end {
         let d = colour_at(bytes, k);

@@ -121,7 +121,8 @@ impl Colours {
     pub fn write_part(&self, from: usize, count: usize, out: &mut Vec<u8>) -> Result<(), NoMemory>
         requires inside { from + count ≤ length self.now }
         requires few { length self.now ≤ most_side * most_side }
-        ensures { OnOk result (out.new.items ≡ out.old.items ++ flat_map pixel_bytes (take count (drop from self.now))) }
+        ensures { OnOk result (out.new.items
+            ≡ out.old.items ++ flat_map pixel_bytes (take count (drop from self.now))) }
     {
         out.extend_from_slice(&self.bytes[from * 3..(from + count) * 3])?;
         Ok(())
@@ -142,7 +143,8 @@ impl Colours {
         requires few { length self.now ≤ most_side * most_side }
         requires in_cols { col + cols ≤ across }
         requires in_rows { (row + rows) * across ≤ length self.now }
-        ensures { OnOk result (out.new.items ≡ out.old.items ++ flat_map pixel_bytes (cut_rows across col row cols rows self.now)) }
+        ensures { OnOk result (out.new.items
+            ≡ out.old.items ++ flat_map pixel_bytes (cut_rows across col row cols rows self.now)) }
     {
         for j in row..row + rows {
             let start = j as usize * across as usize + col as usize;

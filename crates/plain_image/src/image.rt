@@ -36,7 +36,8 @@ impl Image {
     /// An image of these sides that is all of one colour. Sides are 1 to 4,096.
     pub fn new(alloc: Global, cols: u32, rows: u32, c: Colour) -> Result<Image, NoMemory>
         requires { IsSides cols rows }
-        ensures { IfOk result (λ m. m ≡ record { cols = cols; rows = rows; pixels = replicate (rows * cols) c }) }
+        ensures { IfOk result
+            (λ m. m ≡ record { cols = cols; rows = rows; pixels = replicate (rows * cols) c }) }
     {
         let pixels = Colours::of_one(alloc, rows, cols, c)?;
         Ok(Image::of_pixels(cols, rows, pixels))
@@ -81,7 +82,8 @@ impl Image {
         requires cols { mask.now.cols ≡ self.old.cols }
         requires rows { mask.now.rows ≡ self.old.rows }
         requires opacity { opacity ≤ 1000 }
-        ensures { self.new ≡ record self.old { pixels = painted c opacity mask.now.bits self.old.pixels } }
+        ensures { self.new
+            ≡ record self.old { pixels = painted c opacity mask.now.bits self.old.pixels } }
     {
         pixels::paint(mask.bits(), c, opacity, &mut self.pixels);
     }
@@ -125,7 +127,8 @@ impl Image {
     /// newline, `255`, a newline, and then three bytes for each pixel, by rows. `read_ppm` gives the image
     /// back.
     pub fn write_ppm(&self, alloc: Global) -> Result<Vec<u8>, NoMemory>
-        ensures text { IfOk result (λ v. v.items ≡ ppm self.now.cols self.now.rows self.now.pixels) }
+        ensures text { IfOk result
+            (λ v. v.items ≡ ppm self.now.cols self.now.rows self.now.pixels) }
         ensures reads_back { IfOk result (λ v. ppm_of v.items ≡ Ok self.now) }
     {
         let head = pixels::head_of(alloc, self.cols, self.rows)?;

@@ -30,7 +30,8 @@ impl Mask {
     /// A mask of these sides that covers nothing. Sides are 1 to 4,096.
     pub fn new(alloc: Global, cols: u32, rows: u32) -> Result<Mask, NoMemory>
         requires { IsSides cols rows }
-        ensures { IfOk result (λ m. m ≡ record { cols = cols; rows = rows; bits = replicate (rows * cols) false }) }
+        ensures { IfOk result
+            (λ m. m ≡ record { cols = cols; rows = rows; bits = replicate (rows * cols) false }) }
     {
         let bits = vec![in alloc; false; rows as usize * cols as usize]?;
         Ok(Mask { cols, rows, bits })
@@ -63,7 +64,8 @@ impl Mask {
     pub fn set(&mut self, i: u32, j: u32)
         requires col { i < self.old.cols }
         requires row { j < self.old.rows }
-        ensures { self.new ≡ record self.old { bits = slice_set self.old.bits (j * self.old.cols + i) true } }
+        ensures { self.new
+            ≡ record self.old { bits = slice_set self.old.bits (j * self.old.cols + i) true } }
     {
         self.bits[j as usize * self.cols as usize + i as usize] = true;
     }

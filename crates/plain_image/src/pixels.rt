@@ -36,7 +36,8 @@ pub fn head_of(alloc: Global, cols: u32, rows: u32) -> Result<String, NoMemory>
 /// Appends a text and then the three bytes of each pixel.
 pub fn put_after(head: &str, pixels: &Colours, out: &mut Vec<u8>) -> Result<(), NoMemory>
     requires few { length pixels.now ≤ most_side * most_side }
-    ensures { OnOk result (out.new.items ≡ out.old.items ++ head.now ++ flat_map pixel_bytes pixels.now) }
+    ensures { OnOk result
+        (out.new.items ≡ out.old.items ++ head.now ++ flat_map pixel_bytes pixels.now) }
 {
     out.extend_from_slice(head.as_bytes())?;
     pixels.write_part(0, pixels.len(), out)

@@ -30,7 +30,8 @@ impl Model for ReadyLine {
 }
 
 fn append(out: &mut Vec<u8>, c: Colour, count: usize) -> Result<(), NoMemory>
-    ensures { OnOk result (out.new.items ≡ out.old.items ++ flat_map pixel_bytes (replicate count c)) }
+    ensures { OnOk result
+        (out.new.items ≡ out.old.items ++ flat_map pixel_bytes (replicate count c)) }
 {
     for _pixel in 0..count {
         out.extend_from_slice(&[c.r, c.g, c.b])?;

@@ -23,7 +23,10 @@ pub trait Surface {
     fn cover(&mut self, j: u32, from: u32, end: u32)
         requires row { j < rows self.old }
         requires end { end ≤ cols self.old }
-        ensures bits { Becomes shows (λ old new. new ≡ record old { bits = run_changed (λ _. true) (j * cols self.old + from) (end - from) old.bits }) self.old self.new }
+        ensures bits { Becomes shows (λ old new. new ≡ record old {
+          bits = run_changed (λ _. true)
+              (j * cols self.old + from) (end - from) old.bits;
+        }) self.old self.new }
         ensures cols { cols self.new ≡ cols self.old }
         ensures rows { rows self.new ≡ rows self.old };
 }

@@ -1,4 +1,5 @@
--- How a colour is painted over another, in an opacity of 0 to 1,000 thousandths (that a symbolizer has an opacity is Mapnik's; the rounding is this project's own).
+-- How a colour is painted over another, in an opacity of 0 to 1,000 thousandths (that a symbolizer
+-- has an opacity is Mapnik's; the rounding is this project's own).
 use Rattle.std.specs.Prelude.{ℕ, ◌+◌, ◌-◌, ◌*◌, ◌/◌}
 use Rattle.plain_shapes.specs.declared.colour.Colour.{Colour}
 

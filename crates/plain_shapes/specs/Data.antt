@@ -62,7 +62,8 @@ without_ids removed features = filter (λ f. not (has_id removed f.id)) features
 -- the last of the puts of the id, or the other feature where none names it
 abbrev pub last_put : List Feature → ℕ → Feature → Feature
 last_put [] id other = other
-last_put (f ∷ later) id other = if nat_eq f.id id then last_put later id f else last_put later id other
+last_put (f ∷ later) id other = if nat_eq f.id id then last_put later id f
+    else last_put later id other
 
 -- each feature that a put names is replaced in place by the last put of that id
 abbrev pub puts_in_place : List Feature → List Feature → List Feature
@@ -71,7 +72,8 @@ puts_in_place puts features = map (λ f. last_put puts f.id f) features
 -- the last puts of the ids that are not held, in the order of their first puts
 abbrev pub put_features : List ℕ → List Feature → List Feature
 put_features held [] = []
-put_features held (f ∷ later) = if has_id held f.id then put_features held later else last_put later f.id f ∷ put_features (f.id ∷ held) later
+put_features held (f ∷ later) = if has_id held f.id then put_features held later
+    else last_put later f.id f ∷ put_features (f.id ∷ held) later
 
 -- the features with the puts: known ids are replaced in place, new ones go last
 abbrev pub with_puts : List Feature → List Feature → List Feature
@@ -86,7 +88,8 @@ with_change c features = with_puts c.put (without_ids c.remove features)
 -- the first removal that finds nothing among the ids held: absent from the start, or removed before
 abbrev pub first_missing : List ℕ → List ℕ → Option ℕ
 first_missing held [] = None
-first_missing held (id ∷ later) = if has_id held id then first_missing (filter (λ k. not (nat_eq id k)) held) later else Some id
+first_missing held (id ∷ later) =
+    if has_id held id then first_missing (filter (λ k. not (nat_eq id k)) held) later else Some id
 
 -- a layer of more than 1,000,000 features: some put of a new id has passed the limit
 abbrev pub is_too_many : List Feature → Bool
@@ -99,7 +102,8 @@ removal_or_put place None passes = if passes then Some (TooMany place) else None
 
 -- the fault of the change, which stands at this place of its update, over the features of its layer
 abbrev pub features_fault : ℕ → Change → List Feature → Option ApplyFault
-features_fault place c features = removal_or_put place (first_missing (ids_of features) c.remove) (is_too_many (with_change c features))
+features_fault place c features = removal_or_put place (first_missing (ids_of features) c.remove)
+    (is_too_many (with_change c features))
 
 -- the layer of a name
 abbrev pub layer_named : List Layer → List ℕ → Option Layer
@@ -127,17 +131,21 @@ changed_layer c l = record l { features = with_change c l.features }
 -- the layers after a change of the one that it names; the others stay
 abbrev pub layers_after : Change → List Layer → List Layer
 layers_after c [] = []
-layers_after c (l ∷ layers) = if bytes_eq l.name c.layer then changed_layer c l ∷ layers else l ∷ layers_after c layers
+layers_after c (l ∷ layers) = if bytes_eq l.name c.layer then changed_layer c l ∷ layers
+    else l ∷ layers_after c layers
 
 -- go on with data that stand, or stop at a fault
-abbrev pub unless_refused : {A : Type 0} → Option ApplyFault → Result A ApplyFault → Result A ApplyFault
+abbrev pub unless_refused : {A : Type 0} → Option ApplyFault → Result A ApplyFault
+    → Result A ApplyFault
 unless_refused (Some fault) done = Err fault
 unless_refused None done = done
 
--- the data after the changes in order, the first of which stands at this place of its update; or the first fault
+-- the data after the changes in order, the first of which stands at this place of its update; or
+-- the first fault
 unfoldable pub changed_from : ℕ → List Change → List Layer → Result (List Layer) ApplyFault
 changed_from place [] layers = Ok layers
-changed_from place (c ∷ later) layers = unless_refused (change_fault place c layers) (changed_from (place + 1) later (layers_after c layers))
+changed_from place (c ∷ later) layers = unless_refused (change_fault place c layers)
+    (changed_from (place + 1) later (layers_after c layers))
 
 -- the data after an update, or its first fault
 abbrev pub update_result : List Change → List Layer → Result (List Layer) ApplyFault

@@ -1,4 +1,5 @@
--- Masks and images as lists: one bit or one colour for each pixel, row by row. An image is also what a PPM text holds.
+-- Masks and images as lists: one bit or one colour for each pixel, row by row. An image is also
+-- what a PPM text holds.
 use Rattle.std.specs.Prelude.{◌≡◌, ℕ, ◌*◌, ◌≤◌, Bool, List}
 use Rattle.plain_world.specs.Limits.{most_side}
 use Rattle.plain_shapes.specs.declared.colour.Colour.{Colour}

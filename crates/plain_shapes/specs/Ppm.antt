@@ -9,4 +9,5 @@ pixel_bytes c = c.r ∷ c.g ∷ c.b ∷ []
 
 -- P6, the columns, the rows and the greatest value 255 in decimal, then the pixels by rows
 abbrev pub ppm : ℕ → ℕ → List Colour → List ℕ
-ppm cols rows pixels = codes "P6\n" ++ decimal cols ++ codes " " ++ decimal rows ++ codes "\n255\n" ++ flat_map pixel_bytes pixels
+ppm cols rows pixels = codes "P6\n" ++ decimal cols ++ codes " " ++ decimal rows ++ codes "\n255\n"
+    ++ flat_map pixel_bytes pixels

@@ -1,4 +1,5 @@
--- Which squares a change of a feature may touch: the feature's bounding box, widened by 64 pixels on each side.
+-- Which squares a change of a feature may touch: the feature's bounding box, widened by 64 pixels
+-- on each side.
 use Rattle.std.specs.Prelude.{ℕ, ◌+◌, ◌*◌, ◌/◌, Bool, ◌&&◌, IsTrue, nat_le, nat_lt, List, flat_map}
 use Rattle.std.specs.List.{list_any}
 use Rattle.plain_world.specs.declared.world.Point.{Point}
@@ -19,16 +20,19 @@ all_points (Polygon rings) = flat_map (λ r. r) rings
 abbrev pub margin_of : ℕ → ℕ → ℕ
 margin_of size z = most_width * side_at z / size
 
--- p lies in the bounding box of the points widened by the margin, borders included: beside the least and the greatest coordinate, that is beside some point's, on each side
+-- p lies in the bounding box of the points widened by the margin, borders included: beside the
+-- least and the greatest coordinate, that is beside some point's, on each side
 pub record InReach (points : List Point) (margin : ℕ) (p : Point) : Type 0 where
   pub from_west : IsTrue (list_any (λ q. nat_le q.x (p.x + margin)) points)
   pub to_east : IsTrue (list_any (λ q. nat_le p.x (q.x + margin)) points)
   pub from_north : IsTrue (list_any (λ q. nat_le q.y (p.y + margin)) points)
   pub to_south : IsTrue (list_any (λ q. nat_le p.y (q.y + margin)) points)
 
--- the feature reaches the square, for tiles of so many pixels at zoom z: some point of the square lies in its reach
+-- the feature reaches the square, for tiles of so many pixels at zoom z: some point of the square
+-- lies in its reach
 abbrev pub Reaches : Feature → ℕ → ℕ → Square → Type 0
-Reaches f size z s = (p : Point) × InReach (all_points f.geometry) (margin_of size z) p × InSquare s p
+Reaches f size z s = (p : Point) × InReach (all_points f.geometry) (margin_of size z) p
+    × InSquare s p
 
 -- the same as a test on the square's edges
 abbrev pub points_reach : List Point → ℕ → Square → Bool

@@ -6,9 +6,11 @@ use Rattle.plain_world.specs.declared.world.Point.{Point}
 abbrev pub less : ℕ → ℕ → ℤ
 less m n = pos m -ℤ pos n
 
--- an edge that runs from a down to b counts at c where c lies beside it and not to the west of it: its upper end counts, its lower one does not
+-- an edge that runs from a down to b counts at c where c lies beside it and not to the west of it:
+-- its upper end counts, its lower one does not
 abbrev pub counts_down : Point → Point → Point → Bool
-counts_down a b c = nat_le a.y c.y && nat_lt c.y b.y && int_le (less c.y a.y *ℤ less b.x a.x) (less c.x a.x *ℤ less b.y a.y)
+counts_down a b c = nat_le a.y c.y && nat_lt c.y b.y
+    && int_le (less c.y a.y *ℤ less b.x a.x) (less c.x a.x *ℤ less b.y a.y)
 
 -- an edge counts at c by its ends named so that the upper one comes first
 abbrev pub counts : Point × Point → Point → Bool
@@ -21,7 +23,8 @@ edges_from before (p ∷ ps) = (before, p) ∷ edges_from p ps
 
 -- a ring's edges: it is closed from its last point to its first
 abbrev pub ring_edges : List Point → List (Point × Point)
-ring_edges ps = unwrap_or (option_map (λ last. edges_from last ps) (slice_get ps (length ps - 1))) []
+ring_edges ps =
+    unwrap_or (option_map (λ last. edges_from last ps) (slice_get ps (length ps - 1))) []
 
 -- how many edges of all rings count at c
 abbrev pub counting : List (List Point) → Point → ℕ
@@ -31,6 +34,7 @@ counting rings c = count_by (λ e. counts e c) (flat_map ring_edges rings)
 abbrev pub is_odd : ℕ → Bool
 is_odd n = n % 2 == 1
 
--- c lies in the polygon where an odd number of edges of all its rings count; so left and top edges belong to it, right and bottom ones do not
+-- c lies in the polygon where an odd number of edges of all its rings count; so left and top edges
+-- belong to it, right and bottom ones do not
 abbrev pub in_rings : List (List Point) → Point → Bool
 in_rings rings c = is_odd (counting rings c)

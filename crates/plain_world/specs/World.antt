@@ -55,16 +55,19 @@ stretches_meet a m b n = nat_lt a (b + n) && nat_lt b (a + m)
 
 -- the same as a test: the two squares' stretches of x meet, and so do those of y
 abbrev pub squares_meet : Square → Square → Bool
-squares_meet a b = stretches_meet (a.x * side_at a.z) (side_at a.z) (b.x * side_at b.z) (side_at b.z)
+squares_meet a b =
+    stretches_meet (a.x * side_at a.z) (side_at a.z) (b.x * side_at b.z) (side_at b.z)
     && stretches_meet (a.y * side_at a.z) (side_at a.z) (b.y * side_at b.z) (side_at b.z)
 
 -- a tile's square has its three numbers
 abbrev pub tile_square : Tile → Square
 tile_square t = record { z = t.z; x = t.x; y = t.y }
 
--- a metatile is 8 by 8 tiles, so its square lies three zooms higher; below zoom 3 it is the whole world
+-- a metatile is 8 by 8 tiles, so its square lies three zooms higher; below zoom 3 it is the whole
+-- world
 abbrev pub meta_square : Meta → Square
-meta_square m = if nat_le 3 m.z then record { z = m.z - 3; x = m.x / 8; y = m.y / 8 } else record { z = 0; x = 0; y = 0 }
+meta_square m = if nat_le 3 m.z then record { z = m.z - 3; x = m.x / 8; y = m.y / 8 }
+    else record { z = 0; x = 0; y = 0 }
 
 -- the metatile of a tile: its column and row are cut to multiples of 8
 abbrev pub meta_of : Tile → Meta
@@ -88,13 +91,26 @@ IsTileSize n = IsTrue (is_tile_size n)
 
 -- the window of a tile of so many pixels
 abbrev pub window_of : Tile → ℕ → Window
-window_of t size = record { west = t.x * side_at t.z; north = t.y * side_at t.z; pixel = side_at t.z / size; cols = size; rows = size }
+window_of t size = record {
+  west = t.x * side_at t.z;
+  north = t.y * side_at t.z;
+  pixel = side_at t.z / size;
+  cols = size;
+  rows = size;
+}
 
 -- the window of a metatile whose tiles have so many pixels
 abbrev pub meta_window_of : Meta → ℕ → Window
-meta_window_of m size = record { west = m.x * side_at m.z; north = m.y * side_at m.z; pixel = side_at m.z / size; cols = size * tiles_across m; rows = size * tiles_across m }
+meta_window_of m size = record {
+  west = m.x * side_at m.z;
+  north = m.y * side_at m.z;
+  pixel = side_at m.z / size;
+  cols = size * tiles_across m;
+  rows = size * tiles_across m;
+}
 
--- what each window of a tile or a metatile keeps: at most 4,096 columns and rows of pixels, of 1 to 2^26 units, within the world
+-- what each window of a tile or a metatile keeps: at most 4,096 columns and rows of pixels, of 1 to
+-- 2^26 units, within the world
 pub record IsWindow (w : Window) : Type 0 where
   pub some_pixel : 1 ≤ w.pixel
   pub small_pixel : w.pixel ≤ 2 ^ 26
@@ -107,7 +123,8 @@ pub record IsWindow (w : Window) : Type 0 where
 
 -- the centre of the pixel in column i and row j
 abbrev pub centre : Window → ℕ → ℕ → Point
-centre w i j = record { x = w.west + i * w.pixel + w.pixel / 2; y = w.north + j * w.pixel + w.pixel / 2 }
+centre w i j =
+    record { x = w.west + i * w.pixel + w.pixel / 2; y = w.north + j * w.pixel + w.pixel / 2 }
 
 -- the centres of row j, from west to east
 abbrev pub row_centres : Window → ℕ → List Point
@@ -118,10 +135,12 @@ abbrev pub centres : Window → List Point
 centres w = flat_map (λ j. row_centres w j) (range_with_len 0 w.rows)
 
 -- The web Mercator world is 4007501668 centimetres wide, from -2003750834.
--- n centimetres from an edge of the world in units, rounded down; none past 2^30 units or before the edge
+-- n centimetres from an edge of the world in units, rounded down; none past 2^30 units or before
+-- the edge
 abbrev pub units_from_edge : ℤ → Option ℕ
 units_from_edge (negsuc n) = None
-units_from_edge (pos n) = if nat_le (n * 2 ^ 30 / 4007501668) (2 ^ 30) then Some (n * 2 ^ 30 / 4007501668) else None
+units_from_edge (pos n) = if nat_le (n * 2 ^ 30 / 4007501668) (2 ^ 30)
+    then Some (n * 2 ^ 30 / 4007501668) else None
 
 -- x of a Mercator coordinate in centimetres, to the east
 abbrev pub x_from_cm : ℤ → Option ℕ

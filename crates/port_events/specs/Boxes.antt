@@ -1,5 +1,5 @@
--- What an outbox keeps: pairs of a connection and its rest, the bytes that were answered and not yet
--- taken. Each word speaks of the first pair of a connection.
+-- What an outbox keeps: pairs of a connection and its rest, the bytes that were answered and not
+-- yet taken. Each word speaks of the first pair of a connection.
 use Rattle.std.specs.Prelude.{◌≡◌, ◌<◌, ◌≤◌, ◌==◌, ℕ, List, [], ◌∷◌, ◌++◌, length, drop, Option, Some, None, Result, Ok, Err, cond}
 use Rattle.farm_base.specs.Limits.{most_rest_bytes}
 use Rattle.port_events.specs.declared.events.SendFault.{SendFault}
@@ -37,20 +37,27 @@ rest_in box c = rest_of (rest_at box c)
 
 -- An answer of bytes to a connection. Ok has put them behind its rest; Full comes exactly where the
 -- rest would pass 1,048,576 bytes, whether there is memory or not; a refusal changes nothing.
-abbrev pub Answered : List (ℕ × List ℕ) → ℕ → List ℕ → Result (Unit {0}) BoxFault → List (ℕ × List ℕ) → Type 0
-Answered box c bytes (Ok done) new = (new ≡ put_rest box c (rest_in box c ++ bytes)) × (length (rest_in box c ++ bytes) ≤ most_rest_bytes)
-Answered box c bytes (Err fault.Full) new = (new ≡ box) × (most_rest_bytes < length (rest_in box c ++ bytes))
-Answered box c bytes (Err fault.NoMemory) new = (new ≡ box) × (length (rest_in box c ++ bytes) ≤ most_rest_bytes)
+abbrev pub Answered : List (ℕ × List ℕ) → ℕ → List ℕ → Result (Unit {0}) BoxFault
+    → List (ℕ × List ℕ) → Type 0
+Answered box c bytes (Ok done) new = (new ≡ put_rest box c (rest_in box c ++ bytes))
+    × (length (rest_in box c ++ bytes) ≤ most_rest_bytes)
+Answered box c bytes (Err fault.Full) new =
+    (new ≡ box) × (most_rest_bytes < length (rest_in box c ++ bytes))
+Answered box c bytes (Err fault.NoMemory) new =
+    (new ≡ box) × (length (rest_in box c ++ bytes) ≤ most_rest_bytes)
 
--- One send of the whole rest. What was taken is gone from its front; a refusal of the send is handed on
--- and the rest stays.
-abbrev pub OfferedWhole : List ℕ → List (ℕ × List ℕ) → ℕ → Result (Unit {0}) SendFault → List (ℕ × List ℕ) → Option PortsTold → Option PortsTold → Type 0
-OfferedWhole rest box c (Ok done) new was is = (n : ℕ) × (n ≤ length rest) × (new ≡ put_rest box c (drop n rest)) × Sends c rest (Ok n) was is
+-- One send of the whole rest. What was taken is gone from its front; a refusal of the send is
+-- handed on and the rest stays.
+abbrev pub OfferedWhole : List ℕ → List (ℕ × List ℕ) → ℕ → Result (Unit {0}) SendFault
+    → List (ℕ × List ℕ) → Option PortsTold → Option PortsTold → Type 0
+OfferedWhole rest box c (Ok done) new was is =
+    (n : ℕ) × (n ≤ length rest) × (new ≡ put_rest box c (drop n rest)) × Sends c rest (Ok n) was is
 OfferedWhole rest box c (Err e) new was is = (new ≡ box) × Sends c rest (Err e) was is
 
--- An offer of a connection's rest to the ports, which told this before and after: nothing is done where
--- the rest is empty, and else it is offered whole.
-abbrev pub Offered : List (ℕ × List ℕ) → ℕ → Result (Unit {0}) SendFault → List (ℕ × List ℕ) → Option PortsTold → Option PortsTold → Type 0
+-- An offer of a connection's rest to the ports, which told this before and after: nothing is done
+-- where the rest is empty, and else it is offered whole.
+abbrev pub Offered : List (ℕ × List ℕ) → ℕ → Result (Unit {0}) SendFault → List (ℕ × List ℕ)
+    → Option PortsTold → Option PortsTold → Type 0
 Offered box c result new was is =
     (length (rest_in box c) ≡ 0 → (result ≡ Ok tt) × (new ≡ box) × (is ≡ was))
     × (0 < length (rest_in box c) → OfferedWhole (rest_in box c) box c result new was is)
@@ -68,4 +75,5 @@ StandsOnce (p ∷ ps) = (rest_at ps p.0 ≡ None) × StandsOnce ps
 -- connection standing once.
 abbrev pub ConnectionsStandOnce : Type 0
 ConnectionsStandOnce = (box : List (ℕ × List ℕ)) (c : ℕ) (rest : List ℕ) → StandsOnce box
-    → StandsOnce (put_rest box c rest) × StandsOnce (without box c) × (rest_at box c ≡ None → StandsOnce (box ++ (c, []) ∷ []))
+    → StandsOnce (put_rest box c rest) × StandsOnce (without box c)
+    × (rest_at box c ≡ None → StandsOnce (box ++ (c, []) ∷ []))

@@ -35,20 +35,24 @@ IsAlive c t = (t.is_open c ≡ true) × (t.ended c ≡ false)
 -- Which events may come: Opened with the number of connections opened so far, on which nothing has
 -- happened, and below `2^32`; the others that name a connection with one that is alive.
 abbrev pub MayCome : PortEvent → PortsTold → Type 0
-MayCome (event.Opened c) t = (c ≡ t.opened) × (c < 2 ^ 32) × (t.is_open c ≡ false) × (t.ended c ≡ false) × (t.taken c ≡ [])
+MayCome (event.Opened c) t =
+    (c ≡ t.opened) × (c < 2 ^ 32) × (t.is_open c ≡ false) × (t.ended c ≡ false) × (t.taken c ≡ [])
 MayCome (event.Bytes c) t = IsAlive c t
 MayCome (event.Writable c) t = IsAlive c t
 MayCome (event.Ended c) t = IsAlive c t
 MayCome (event.Lost c) t = IsAlive c t
 MayCome _ _ = Unit {0}
 
--- What ports tell after an event. Each is a line of the record, with the piece at Bytes and no bytes
--- at the others; want of memory alone is none and changes nothing.
+-- What ports tell after an event. Each is a line of the record, with the piece at Bytes and no
+-- bytes at the others; want of memory alone is none and changes nothing.
 abbrev pub heard : PortEvent → List ℕ → PortsTold → PortsTold
-heard (event.Opened c) piece t = record (with_record_line (item.Heard (event.Opened c) []) t) { opened = c + 1; is_open = put t.is_open c true }
+heard (event.Opened c) piece t = record (with_record_line (item.Heard (event.Opened c) []) t)
+    { opened = c + 1; is_open = put t.is_open c true }
 heard (event.Bytes c) piece t = with_record_line (item.Heard (event.Bytes c) piece) t
-heard (event.Ended c) piece t = record (with_record_line (item.Heard (event.Ended c) []) t) { ended = put t.ended c true }
-heard (event.Lost c) piece t = record (with_record_line (item.Heard (event.Lost c) []) t) { is_open = put t.is_open c false }
+heard (event.Ended c) piece t =
+    record (with_record_line (item.Heard (event.Ended c) []) t) { ended = put t.ended c true }
+heard (event.Lost c) piece t =
+    record (with_record_line (item.Heard (event.Lost c) []) t) { is_open = put t.is_open c false }
 heard event.NoMemory piece t = t
 heard e piece t = with_record_line (item.Heard e []) t
 
@@ -61,11 +65,13 @@ abbrev pub IsPieceOf : PortEvent → List ℕ → Type 0
 IsPieceOf (event.Bytes c) piece = (0 < length piece) × (length piece ≤ most_piece_bytes)
 IsPieceOf _ piece = Unit {0}
 
--- What ports tell after a send of these bytes. Ok has taken so many from their front; after Failed the
--- connection is lost; want of memory is no line and changes nothing.
+-- What ports tell after a send of these bytes. Ok has taken so many from their front; after Failed
+-- the connection is lost; want of memory is no line and changes nothing.
 abbrev pub after_send : ℕ → List ℕ → Result ℕ SendFault → PortsTold → PortsTold
-after_send c bytes (Ok n) t = record (with_record_line (item.Sent c (length bytes) (Some n)) t) { taken = put t.taken c (t.taken c ++ take n bytes) }
-after_send c bytes (Err send_fault.Failed) t = record (with_record_line (item.Sent c (length bytes) None) t) { is_open = put t.is_open c false }
+after_send c bytes (Ok n) t = record (with_record_line (item.Sent c (length bytes) (Some n)) t)
+    { taken = put t.taken c (t.taken c ++ take n bytes) }
+after_send c bytes (Err send_fault.Failed) t = record (with_record_line
+    (item.Sent c (length bytes) None) t) { is_open = put t.is_open c false }
 after_send c bytes (Err send_fault.NoMemory) t = t
 
 -- A send of bytes. Whether the ports tell stays.
@@ -79,7 +85,8 @@ after_listen address (Err fault.Failed) t = with_record_line (item.Listened addr
 after_listen address (Err fault.NoMemory) t = t
 
 -- A listen at an address. Whether the ports tell stays.
-abbrev pub Listens : List ℕ → Result (Unit {0}) PortFault → Option PortsTold → Option PortsTold → Type 0
+abbrev pub Listens : List ℕ → Result (Unit {0}) PortFault → Option PortsTold
+    → Option PortsTold → Type 0
 Listens address result old new = new ≡ option_map (after_listen address result) old
 
 -- what ports tell after a close, which is no line of their record: the connection is open no longer

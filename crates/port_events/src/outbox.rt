@@ -141,7 +141,8 @@ impl Model for Outbox {
 
     ghost view = { λ b. b.items.items };
 
-    ghost invariant = { λ b. All (λ (p : ℕ × List ℕ). length p.1 ≤ most_rest_bytes) b.items.items × (b.rests.items ≡ []) × (vec_len b.items ≤ vec_capacity b.rests) };
+    ghost invariant = { λ b. All (λ (p : ℕ × List ℕ). length p.1 ≤ most_rest_bytes) b.items.items
+        × (b.rests.items ≡ []) × (vec_len b.items ≤ vec_capacity b.rests) };
 }
 
 fn place_of(items: &[Pending], conn: u32) -> Option<usize>
@@ -224,7 +225,8 @@ impl Outbox {
     pub fn offer<P: Ports>(&mut self, conn: u32, ports: &mut P) -> Result<(), SendFault>
         requires rest { HasRest self.old conn }
         requires open { IsOpen conn (P.state ports.old).told }
-        ensures offered { Offered self.old conn result self.new (P.state ports.old).told (P.state ports.new).told }
+        ensures offered { Offered self.old conn result self.new (P.state ports.old).told
+            (P.state ports.new).told }
         ensures cause { SendCounts (P.state ports.old).faults (P.state ports.new).faults result }
     {
         let place = there(self.items.as_slice(), conn);

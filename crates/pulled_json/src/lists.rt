@@ -47,7 +47,8 @@ fn pull_items<P: PullItem>(
 ) -> Option<Vec<P::Item>>
     requires { P.knows known.old [] }
     ensures value { IfSome result (λ v. (ds : Items)
-        × (converted of_items (items (value depth) (length reader.old) reader.old) ≡ Some (ds, reader.new))
+        × (converted of_items (items (value depth) (length reader.old) reader.old)
+        ≡ Some (ds, reader.new))
         × (list_of (P.reads pulls.now) ds ≡ Ok v.items)) }
     ensures shorter { OnSome result (length reader.new < length reader.old) }
     ensures known { IfSome result (λ v. P.knows known.new v.items) }

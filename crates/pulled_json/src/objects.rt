@@ -23,7 +23,8 @@ pub trait PullMember {
         reader: &mut Reader<'_>,
         depth: usize,
     ) -> Option<()>
-        ensures value { OnSome result ((before : Members) → has self.now gathered.old before → (d : Data)
+        ensures value { OnSome result
+            ((before : Members) → has self.now gathered.old before → (d : Data)
             × (converted of_json (value depth reader.old) ≡ Some (d, reader.new))
             × has self.now gathered.new (put key.now d before)) }
         ensures shorter { OnSome result (length reader.new < length reader.old) };
@@ -38,7 +39,8 @@ fn pull_members<P: PullMember>(
 ) -> Option<()>
     requires { P.has pulls.now gathered.old no_members }
     ensures value { OnSome result ((all : Members)
-        × (converted (λ ms. of_members ms no_members) (members (value depth) (length reader.old) reader.old)
+        × (converted (λ ms. of_members ms no_members)
+        (members (value depth) (length reader.old) reader.old)
         ≡ Some (all, reader.new))
         × P.has pulls.now gathered.new all) }
     ensures shorter { OnSome result (length reader.new < length reader.old) }

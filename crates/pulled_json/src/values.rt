@@ -65,7 +65,8 @@ fn number_at(text: &str) -> Option<Number>
 /// or that memory ran out.
 #[cycle(pulls)]
 pub fn value_from(alloc: Global, reader: &mut Reader<'_>, depth: usize) -> Option<Value>
-    ensures value { IfSome result (λ v. converted of_json (value depth reader.old) ≡ Some (view v, reader.new)) }
+    ensures value { IfSome result
+        (λ v. converted of_json (value depth reader.old) ≡ Some (view v, reader.new)) }
     ensures shorter { OnSome result (length reader.new < length reader.old) }
 {
     match reader.next()? {
@@ -94,7 +95,8 @@ pub fn value_from(alloc: Global, reader: &mut Reader<'_>, depth: usize) -> Optio
 
 #[cycle(pulls)]
 fn list_from(alloc: Global, reader: &mut Reader<'_>, depth: usize) -> Option<Vec<Value>>
-    ensures value { IfSome result (λ v. converted of_items (items (value depth) (length reader.old) reader.old)
+    ensures value { IfSome result
+        (λ v. converted of_items (items (value depth) (length reader.old) reader.old)
         ≡ Some (items_view v.items, reader.new)) }
     ensures shorter { OnSome result (length reader.new < length reader.old) }
 {
@@ -111,7 +113,8 @@ fn list_from(alloc: Global, reader: &mut Reader<'_>, depth: usize) -> Option<Vec
 #[cycle(pulls)]
 fn object_from(alloc: Global, reader: &mut Reader<'_>, depth: usize) -> Option<Map<String, Value>>
     ensures value { IfSome result (λ m. converted (λ ms. of_members ms no_members)
-        (members (value depth) (length reader.old) reader.old) ≡ Some (members_view m.entries, reader.new)) }
+        (members (value depth) (length reader.old) reader.old)
+        ≡ Some (members_view m.entries, reader.new)) }
     ensures shorter { OnSome result (length reader.new < length reader.old) }
 {
     let mut found = Map::new(alloc);
@@ -136,7 +139,8 @@ fn object_from(alloc: Global, reader: &mut Reader<'_>, depth: usize) -> Option<M
 
 /// The next value, which has to be a text.
 pub fn str_from<'a>(reader: &mut Reader<'a>) -> Option<&'a str>
-    ensures value { IfSome result (λ s. (depth : ℕ) → converted of_json (value depth reader.old) ≡ Some (string s.now, reader.new)) }
+    ensures value { IfSome result (λ s. (depth : ℕ)
+        → converted of_json (value depth reader.old) ≡ Some (string s.now, reader.new)) }
     ensures shorter { OnSome result (length reader.new < length reader.old) }
 {
     match reader.next()? {

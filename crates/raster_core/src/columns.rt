@@ -61,7 +61,8 @@ fn column_run(corners: &[Corner], k: usize, w: Window) -> (ColumnRun, usize)
     ensures next { k < result.1 }
     ensures fits { result.1 ≤ length corners.now }
     ensures rows { result.0.bottom ≤ w.rows }
-    ensures is { (j i : ℕ) → j < w.rows → odd_corners (take result.1 corners.now) j i ≡ flip (in_run result.0 j i) (odd_corners (take k corners.now) j i) }
+    ensures is { (j i : ℕ) → j < w.rows → odd_corners (take result.1 corners.now) j i
+        ≡ flip (in_run result.0 j i) (odd_corners (take k corners.now) j i) }
 {
     let first = corner_at(corners, k);
     let column = first.column;

@@ -31,7 +31,8 @@ fn place_at(a: Point, b: Point, y: u32) -> u64
     requires lower { y < b.y }
     requires a_in { InWorld a }
     requires b_in { InWorld b }
-    ensures { (x : ℕ) → nat_le result x ≡ nat_le ((y - a.y) * b.x + (b.y - y) * a.x) ((b.y - a.y) * x) }
+    ensures { (x : ℕ)
+        → nat_le result x ≡ nat_le ((y - a.y) * b.x + (b.y - y) * a.x) ((b.y - a.y) * x) }
 {
     let rise = u64::from(y - a.y);
     let rest = u64::from(b.y - y);
@@ -98,7 +99,8 @@ fn cross_row(e: Edge, w: Window, j: u32, places: &mut Vec<u32>) -> Result<(), No
     requires row { j < w.rows }
     requires upper { e.a.y ≤ w.north + j * w.pixel + w.pixel / 2 }
     requires lower { w.north + j * w.pixel + w.pixel / 2 < e.b.y }
-    ensures { OnOk result (RowToggled w (at_centres w (counts_down e.a e.b)) j places.old.items places.new.items) }
+    ensures { OnOk result
+        (RowToggled w (at_centres w (counts_down e.a e.b)) j places.old.items places.new.items) }
 {
     let k = column(e, w, j);
     if k < w.cols {
@@ -132,7 +134,8 @@ fn cross_rows(e: Edge, w: Window, from: u32, to: u32, places: &mut Vec<u32>) -> 
     requires window { IsWindow w }
     requires top { e.top ≤ from }
     requires bottom { to ≤ e.bottom }
-    ensures { OnOk result (Toggled w (in_part w (counts_down e.a e.b) from to) places.old.items places.new.items) }
+    ensures { OnOk result
+        (Toggled w (in_part w (counts_down e.a e.b) from to) places.old.items places.new.items) }
 {
     for j in from..to {
         cross_row(e, w, j, places)?;
@@ -166,7 +169,8 @@ fn same_column(e: Edge, w: Window, from: u32, to: u32) -> Option<u32>
     requires top { e.top ≤ from }
     requires order { from ≤ to }
     requires bottom { to ≤ e.bottom }
-    ensures { IfSome result (λ k. (j i : ℕ) → from ≤ j → j < to → i < w.cols → nat_le k i ≡ counts_down e.a e.b (centre w i j)) }
+    ensures { IfSome result (λ k. (j i : ℕ) → from ≤ j → j < to → i < w.cols
+        → nat_le k i ≡ counts_down e.a e.b (centre w i j)) }
 {
     if to <= from + FEW_ROWS {
         return None;
@@ -182,7 +186,8 @@ fn cross_part(e: Edge, w: Window, from: u32, to: u32, crossed: &mut Crossed) -> 
     requires top { e.top ≤ from }
     requires order { from ≤ to }
     requires bottom { to ≤ e.bottom }
-    ensures { OnOk result (PartTurned w (in_part w (counts_down e.a e.b) from to) crossed.old crossed.new) }
+    ensures { OnOk result
+        (PartTurned w (in_part w (counts_down e.a e.b) from to) crossed.old crossed.new) }
 {
     if let Some(column) = same_column(e, w, from, to) {
         let run = ColumnRun {

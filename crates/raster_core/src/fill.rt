@@ -38,7 +38,8 @@ fn set_runs(places: &[u32], w: Window, mask: &mut Mask)
     requires order { IsNonDecreasing places.now }
     requires cols { mask.old.cols ≡ w.cols }
     requires rows { mask.old.rows ≡ w.rows }
-    ensures filled { (member : Point → Bool) → Crossings w member places.now → mask.new ≡ record mask.old { bits = marked member (centres w) mask.old.bits } }
+    ensures filled { (member : Point → Bool) → Crossings w member places.now
+        → mask.new ≡ record mask.old { bits = marked member (centres w) mask.old.bits } }
     ensures cols { mask.new.cols ≡ mask.old.cols }
     ensures rows { mask.new.rows ≡ mask.old.rows }
 {
@@ -61,7 +62,8 @@ pub fn fill_mask(alloc: Global, rings: &[Path], w: Window, mask: &mut Mask) -> R
     requires window { IsWindow w }
     requires cols { mask.old.cols ≡ w.cols }
     requires rows { mask.old.rows ≡ w.rows }
-    ensures filled { OnOk result (mask.new ≡ record mask.old { bits = marked (in_rings rings.now) (centres w) mask.old.bits }) }
+    ensures filled { OnOk result (mask.new
+        ≡ record mask.old { bits = marked (in_rings rings.now) (centres w) mask.old.bits }) }
     ensures refused { OnErr result (mask.new ≡ mask.old) }
     ensures cols { mask.new.cols ≡ mask.old.cols }
     ensures rows { mask.new.rows ≡ mask.old.rows }

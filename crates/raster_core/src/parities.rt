@@ -29,7 +29,8 @@ fn area_of(w: Window) -> usize
 
 fn turn(bits: &mut Vec<bool>, place: u32)
     requires { place < length bits.old.items }
-    ensures { bits.new.items ≡ slice_set bits.old.items place (not (slice_index_or bits.old.items place false)) }
+    ensures { bits.new.items
+        ≡ slice_set bits.old.items place (not (slice_index_or bits.old.items place false)) }
 {
     let k = place as usize;
     bits[k] = !bits[k];
@@ -45,7 +46,8 @@ fn no_bits(alloc: Global, area: usize) -> Result<Vec<bool>, NoMemory>
 fn bits_of(alloc: Global, area: usize, places: &[u32]) -> Result<Vec<bool>, NoMemory>
     requires { All (λ place. place < area) places.now }
     ensures count { IfOk result (λ v. length v.items ≡ area) }
-    ensures parity { IfOk result (λ v. (p : ℕ → Bool) → is_odd (count_by p (set_places 0 v.items)) ≡ is_odd (count_by p places.now)) }
+    ensures parity { IfOk result (λ v. (p : ℕ → Bool)
+        → is_odd (count_by p (set_places 0 v.items)) ≡ is_odd (count_by p places.now)) }
 {
     let mut bits = no_bits(alloc, area)?;
     for place in places {
@@ -55,7 +57,8 @@ fn bits_of(alloc: Global, area: usize, places: &[u32]) -> Result<Vec<bool>, NoMe
 }
 
 fn add_set(places: &mut Vec<u32>, place: u32, is_set: bool) -> Result<(), NoMemory>
-    ensures { OnOk result (places.new.items ≡ places.old.items ++ (if is_set then place ∷ [] else [])) }
+    ensures { OnOk result
+        (places.new.items ≡ places.old.items ++ (if is_set then place ∷ [] else [])) }
 {
     if is_set {
         places.push(place)?;

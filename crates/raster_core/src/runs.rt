@@ -44,7 +44,8 @@ pub fn run_at(places: &[u32], k: usize, w: Window) -> Run
     ensures end { result.end ≤ w.cols }
     ensures start { result.start ≤ result.end }
     ensures next { k < result.next }
-    ensures is { (member : Point → Bool) (n : ℕ) → Crossings w member places.now → Done w places.now k n → IsNext w member places.now n result }
+    ensures is { (member : Point → Bool) (n : ℕ) → Crossings w member places.now
+        → Done w places.now k n → IsNext w member places.now n result }
 {
     let first = places[k];
     let row = first / w.cols;

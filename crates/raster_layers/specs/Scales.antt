@@ -10,13 +10,15 @@ use Rattle.plain_drawing.specs.Limits.{most_grid_side}
 
 -- a grid, unless a side is over 1,024
 abbrev pub grid_or_fault : Grid → Result Grid GridFault
-grid_or_fault g = if nat_le g.cols most_grid_side && nat_le g.rows most_grid_side then Ok g else Err Size
+grid_or_fault g = if nat_le g.cols most_grid_side && nat_le g.rows most_grid_side then Ok g
+    else Err Size
 
 -- the numbers differ by a multiple of p
 abbrev pub DifferBy : ℕ → ℕ → ℕ → Type 0
 DifferBy p a b = ((k : ℕ) × (b ≡ a + k * p)) ⊎ ((k : ℕ) × (a ≡ b + k * p))
 
--- the grid's pixels have the window's side, and its west and north edges differ from the window's by multiples of it
+-- the grid's pixels have the window's side, and its west and north edges differ from the window's
+-- by multiples of it
 pub record IsSameScale (g : Grid) (w : Window) : Type 0 where
   pub pixel : g.pixel ≡ w.pixel
   pub west : DifferBy w.pixel g.west w.west
@@ -30,5 +32,6 @@ pub record IsSamePlace (g : Grid) (w : Window) (i j col row : ℕ) : Type 0 wher
 -- each centre of the window that the grid holds has the grid's pixel of the same place
 abbrev pub LawSameScale : Type 0
 LawSameScale =
-    (g : Grid) (w : Window) → 1 ≤ w.pixel → IsSameScale g w → (i j : ℕ) (c : Colour) → grid_at g (centre w i j) ≡ Some c
+    (g : Grid) (w : Window) → 1 ≤ w.pixel → IsSameScale g w → (i j : ℕ) (c : Colour)
+    → grid_at g (centre w i j) ≡ Some c
     → (col : ℕ) × (row : ℕ) × IsSamePlace g w i j col row × (pixel_at g col row ≡ Some c)

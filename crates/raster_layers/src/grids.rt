@@ -27,7 +27,15 @@ pub fn make_grid(
     requires cols { 1 ≤ cols }
     requires rows { 1 ≤ rows }
     requires three_each { length bytes.items ≡ 3 * (rows * cols) }
-    ensures { result ≡ grid_or_fault (record { name = name; west = west; north = north; pixel = pixel; cols = cols; rows = rows; bytes = bytes.items }) }
+    ensures { result ≡ grid_or_fault (record {
+      name = name;
+      west = west;
+      north = north;
+      pixel = pixel;
+      cols = cols;
+      rows = rows;
+      bytes = bytes.items;
+    }) }
 {
     if cols > MOST_GRID_SIDE || rows > MOST_GRID_SIDE {
         return Err(GridFault::Size);

@@ -22,7 +22,8 @@ features_reach features size z s = list_any (λ f. feature_reaches f size z s) f
 -- boxes of the features: together they reach what the features reach
 pub record AreBoxesOf (features : List Feature) (boxes : List Bounds) : Type 0 where
   pub sound : Each IsBox boxes
-  pub reach : (size z : ℕ) (s : Square) → boxes_reach boxes size z s ≡ features_reach features size z s
+  pub reach : (size z : ℕ) (s : Square)
+      → boxes_reach boxes size z s ≡ features_reach features size z s
 
 -- some box reaches the metatile's square, for tiles of the map; without a map nothing is reached
 abbrev pub boxes_reach_map : List Bounds → Option MapPlan → Meta → Bool

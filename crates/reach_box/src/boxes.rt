@@ -38,7 +38,8 @@ fn add_removed(
     layer: &LayerFinder<'_>,
     ids: &[u64],
 ) -> Result<(), NoMemory>
-    ensures { OnOk result (Adds (flat_map (at_id layer.now.features) ids.now) boxes.old.items boxes.new.items) }
+    ensures { OnOk result
+        (Adds (flat_map (at_id layer.now.features) ids.now) boxes.old.items boxes.new.items) }
 {
     for id in ids {
         add_old(boxes, layer, *id)?;
@@ -52,7 +53,8 @@ fn add_put(
     layer: &LayerFinder<'_>,
     puts: &[Feature],
 ) -> Result<(), NoMemory>
-    ensures { OnOk result (Adds (flat_map (at_put layer.now.features) puts.now) boxes.old.items boxes.new.items) }
+    ensures { OnOk result
+        (Adds (flat_map (at_put layer.now.features) puts.now) boxes.old.items boxes.new.items) }
 {
     for f in puts {
         add_old(boxes, layer, f.id())?;
@@ -75,7 +77,8 @@ fn add_changed(
     layer: &LayerFinder<'_>,
     change: &Change,
 ) -> Result<(), NoMemory>
-    ensures { OnOk result (Adds (met_by layer.now.features change.now) boxes.old.items boxes.new.items) }
+    ensures { OnOk result
+        (Adds (met_by layer.now.features change.now) boxes.old.items boxes.new.items) }
 {
     add_removed(boxes, layer, change.remove.as_slice())?;
     add_put(boxes, layer, change.put.as_slice())
@@ -94,7 +97,8 @@ fn add_named(
     change: &Change,
 ) -> Result<(), NoMemory>
     ensures same { layers.new ≡ layers.old }
-    ensures added { OnOk result (Adds (met_by (features_in layers.old change.now.layer) change.now) boxes.old.items boxes.new.items) }
+    ensures added { OnOk result (Adds (met_by (features_in layers.old change.now.layer) change.now)
+        boxes.old.items boxes.new.items) }
 {
     match place_named(layers, change.layer.as_str()) {
         Some(at) => {

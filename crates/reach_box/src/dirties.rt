@@ -37,7 +37,8 @@ fn word_of(maps: &[MapPlan], size: u32) -> u64
 pub fn mark_maps_dirty(marks: &mut Marks, maps: &[MapPlan], boxes: &mut [Bounds]) -> u64
     requires few { length maps.now ≤ 16 }
     requires maps { All IsMapPlan maps.now }
-    ensures dirties { Expires (is_reached maps.now boxes.old) marks.old.shown marks.new.shown result }
+    ensures dirties { Expires (is_reached maps.now boxes.old)
+        marks.old.shown marks.new.shown result }
     ensures apart { AreApart shown_key marks.old.shown }
     ensures moved { IsPermutation boxes.old boxes.new }
 {

@@ -13,7 +13,8 @@ abbrev pub seen : {A B E : Type 0} → (A → B) → Result A E → Result B E
 seen view (Ok x) = Ok (view x)
 seen view (Err e) = Err e
 
--- what a function answered, seen by view, is the value or fault that is defined, unless memory ran out
+-- what a function answered, seen by view, is the value or fault that is defined, unless memory ran
+-- out
 abbrev pub Gives : {A B E : Type 0} → E → (A → B) → Result B E → Result A E → Type 0
 Gives memory view defined (Ok x) = defined ≡ Ok (view x)
 Gives memory view defined (Err e) = e ≢ memory → defined ≡ Err e

@@ -22,10 +22,12 @@ or_value default read (Some d) = read d
 abbrev pub text : {E : Type 0} → E → Data → Result (List ℕ) E
 text fault d = ok_or (as_str d) fault
 
--- a number that has to be whole and within two bounds: shape where it is not whole, range where it lies outside
+-- a number that has to be whole and within two bounds: shape where it is not whole, range where it
+-- lies outside
 abbrev pub integer_within : {E : Type 0} → E → E → ℕ → ℕ → Option Num → Result ℕ E
 integer_within shape range low high None = Err shape
-integer_within shape range low high (Some (unsigned n)) = if nat_le low n && nat_le n high then Ok n else Err range
+integer_within shape range low high (Some (unsigned n)) = if nat_le low n && nat_le n high then Ok n
+    else Err range
 integer_within shape range low high (Some (negative z)) = Err range
 integer_within shape range low high (Some (float x)) = Err shape
 
@@ -57,12 +59,14 @@ only_keys names _ = false
 
 -- an object is opened: it has to be one, and then to have no unknown key
 unfoldable pub opened : {E : Type 0} → E → E → List (List ℕ) → Data → Result (Unit {0}) E
-opened shape unknown names d = check (is_some (as_object d)) shape >>= λ u. check (only_keys names d) unknown
+opened shape unknown names d =
+    check (is_some (as_object d)) shape >>= λ u. check (only_keys names d) unknown
 
 -- a list, if there is one, within its limit
 abbrev pub items_within : {E : Type 0} → ℕ → E → Option Items → Result (Option Items) E
 items_within limit fault None = Ok None
-items_within limit fault (Some items) = if nat_le (items_len items) limit then Ok (Some items) else Err fault
+items_within limit fault (Some items) = if nat_le (items_len items) limit then Ok (Some items)
+    else Err fault
 
 -- the list that stands at a key, if one does, within its limit
 unfoldable pub within : {E : Type 0} → ℕ → E → Option Data → Result (Option Items) E

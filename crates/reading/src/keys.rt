@@ -21,13 +21,15 @@ fn is_one_of(names: &[&str], name: &str) -> bool
 }
 
 fn has_only(members: &Map<String, Value>, names: &[&str]) -> bool
-    ensures { result ≡ list_all (λ k. spec.is_one_of (map (λ s. s.now) names.now) (string_bytes k)) (keys members.now) }
+    ensures { result ≡ list_all (λ k. spec.is_one_of (map (λ s. s.now) names.now) (string_bytes k))
+        (keys members.now) }
 {
     members.keys().all(|key| is_one_of(names, key.as_str()))
 }
 
 fn are_known(members: &Map<String, Value>, names: &[&str]) -> bool
-    ensures { result ≡ spec.members_known (map (λ s. s.now) names.now) (members_view members.now.entries) }
+    ensures { result
+        ≡ spec.members_known (map (λ s. s.now) names.now) (members_view members.now.entries) }
 {
     has_only(members, names)
 }

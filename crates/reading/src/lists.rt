@@ -32,7 +32,8 @@ pub trait ReadItem {
         value: &Value,
     ) -> Result<Self::Item, Self::Fault>
         requires { length before.now < limit self.now }
-        ensures value { Gives Self.Fault.memory (λ x. x) (reads self.now before.now (view value.now)) result }
+        ensures value { Gives Self.Fault.memory (λ x. x)
+            (reads self.now before.now (view value.now)) result }
         ensures kept { IfOk result (λ x. IsTrue (keeps self.now before.now x)) };
 }
 
@@ -44,7 +45,8 @@ pub fn read_list<R: ReadItem>(
     values: &[Value],
 ) -> Result<Vec<R::Item>, R::Fault>
     requires { length values.now ≤ R.limit reader.now }
-    ensures value { Gives R.Fault.memory (λ v. v.items) (list_of (R.reads reader.now) (items_view values.now)) result }
+    ensures value { Gives R.Fault.memory (λ v. v.items)
+        (list_of (R.reads reader.now) (items_view values.now)) result }
     ensures kept { IfOk result (λ v. IsTrue (each_after (R.keeps reader.now) [] v.items)) }
     ensures count { IfOk result (λ v. length v.items ≤ length values.now) }
 {
@@ -93,7 +95,8 @@ pub trait ReadKnown {
     ) -> Result<Self::Item, Self::Fault>
         requires place { length before.now < limit self.now }
         requires known { knows known.old before.now }
-        ensures value { Gives Self.Fault.memory (λ x. x) (reads self.now before.now (view value.now)) result }
+        ensures value { Gives Self.Fault.memory (λ x. x)
+            (reads self.now before.now (view value.now)) result }
         ensures kept { IfOk result (λ x. IsTrue (keeps self.now before.now x)) }
         ensures known { IfOk result (λ x. knows known.new (before.now ++ x ∷ [])) };
 }
@@ -109,7 +112,8 @@ pub fn read_list_with<R: ReadKnown>(
 ) -> Result<Vec<R::Item>, R::Fault>
     requires place { length values.now ≤ R.limit reader.now }
     requires known { R.knows known.old [] }
-    ensures value { Gives R.Fault.memory (λ v. v.items) (list_of (R.reads reader.now) (items_view values.now)) result }
+    ensures value { Gives R.Fault.memory (λ v. v.items)
+        (list_of (R.reads reader.now) (items_view values.now)) result }
     ensures kept { IfOk result (λ v. IsTrue (each_after (R.keeps reader.now) [] v.items)) }
     ensures count { IfOk result (λ v. length v.items ≤ length values.now) }
     ensures known { IfOk result (λ v. R.knows known.new v.items) }

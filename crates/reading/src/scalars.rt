@@ -53,7 +53,8 @@ pub fn signed<E: Drop>(value: &Value, fault: E) -> Result<i64, E>
 
 /// The items of the list at a key: the fault where there is no such key or its value is no list.
 pub fn list<E: Drop>(found: Option<&Value>, fault: E) -> Result<&[Value], E>
-    ensures value { seen (λ vs. items_view vs.now) result ≡ spec.needed fault (spec.list fault) (option_map (λ v. view v.now) found.entry) }
+    ensures value { seen (λ vs. items_view vs.now) result
+        ≡ spec.needed fault (spec.list fault) (option_map (λ v. view v.now) found.entry) }
     ensures short { IfOk result (λ vs. length vs.now < 2 ^ 64) }
 {
     match found {
@@ -71,7 +72,8 @@ pub fn list<E: Drop>(found: Option<&Value>, fault: E) -> Result<&[Value], E>
 /// The items of the list at a key, if there is one: the fault where there are more than `limit`.
 #[tactic(auto, using(crate::proofs::Members::within_short, crate::proofs::Members::within_long, crate::proofs::Members::within_other), unfolding(crate::specs::Values::within))]
 pub fn within<E: Drop>(found: Option<&Value>, limit: usize, fault: E) -> Result<Option<&[Value]>, E>
-    ensures value { seen (option_map (λ vs. items_view vs.now)) result ≡ spec.within limit fault (option_map (λ v. view v.now) found.entry) }
+    ensures value { seen (option_map (λ vs. items_view vs.now)) result
+        ≡ spec.within limit fault (option_map (λ v. view v.now) found.entry) }
     ensures short { IfOk result (λ o. IfSome o (λ vs. length vs.now ≤ limit)) }
 {
     match found {

@@ -8,7 +8,8 @@ use Rattle.exit_status.specs.DataFaults.{data_text}
 use Rattle.farm_files.specs.Course.{Course, made, ◌>>=◌, file}
 use Rattle.farm_files.specs.MapCourses.{style_course_by}
 
--- the style with its rasters is read, where texts are read so, and then the data, and the tile of these is made
+-- the style with its rasters is read, where texts are read so, and then the data, and the tile of
+-- these is made
 unfoldable pub render_course_by : TextReading → List ℕ → List ℕ → ℕ → Tile → Course (List ℕ)
 render_course_by says style_name data_name size tile = do
   style ← style_course_by says style_name
@@ -17,4 +18,5 @@ render_course_by says style_name data_name size tile = do
 
 -- the same, where texts are read by the functions that go over them
 abbrev pub render_course : List ℕ → List ℕ → ℕ → Tile → Course (List ℕ)
-render_course style_name data_name size tile = render_course_by text_reading style_name data_name size tile
+render_course style_name data_name size tile =
+    render_course_by text_reading style_name data_name size tile

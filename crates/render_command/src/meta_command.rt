@@ -25,7 +25,8 @@ pub fn meta<F: Files, O: Sink>(
     files: &mut F,
     out: &mut O,
 ) -> Result<(), Stop>
-    ensures { Writes (meta_course file.now) (F.state files.old) (F.state files.new) (O.state out.old) (O.state out.new) result }
+    ensures { Writes (meta_course file.now) (F.state files.old) (F.state files.new)
+        (O.state out.old) (O.state out.new) result }
 {
     let text = text_of(alloc, file, files)?;
     put(out, text.as_slice())
@@ -33,7 +34,8 @@ pub fn meta<F: Files, O: Sink>(
 
 #[tactic(auto, using(farm_files::proofs::Courses::follows_then, farm_files::proofs::Courses::follows_stop, farm_files::proofs::Courses::follows_wanting), unfolding(crate::specs::MetaCourses::meta_course))]
 fn text_of<F: Files>(alloc: Global, name: &str, files: &mut F) -> Result<Vec<u8>, Stop>
-    ensures { Follows (meta_course name.now) (F.state files.old) (F.state files.new) (seen (λ v. v.items) result) }
+    ensures { Follows (meta_course name.now) (F.state files.old) (F.state files.new)
+        (seen (λ v. v.items) result) }
 {
     let listing = read_listing(alloc, files, name)?;
     Ok(listing_text(alloc, &listing)?)
@@ -41,7 +43,8 @@ fn text_of<F: Files>(alloc: Global, name: &str, files: &mut F) -> Result<Vec<u8>
 
 #[tactic(auto, using(farm_files::proofs::Judged::file_stops))]
 fn read_listing<F: Files>(alloc: Global, files: &mut F, name: &str) -> Result<Listing, Stop>
-    ensures { Follows (file listing_found meta_text name.now) (F.state files.old) (F.state files.new) result }
+    ensures { Follows (file listing_found meta_text name.now) (F.state files.old)
+        (F.state files.new) result }
 {
     let bytes = read_file(alloc, files, name)?;
     checked(alloc, name, listing(bytes.as_slice()))

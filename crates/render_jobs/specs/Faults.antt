@@ -33,9 +33,11 @@ abbrev pub can_show : FarmPlan → Key → Bool
 can_show plan k = has_zoom (slice_get plan.maps k.map) k.meta.z
 
 -- the fault of the first of the list, from that place on, that does not pass the test
-unfoldable pub first_failing : {X : Type 0} → (ℕ → X → Bool) → (ℕ → ResumeFault) → ℕ → List X → Option ResumeFault
+unfoldable pub first_failing : {X : Type 0} → (ℕ → X → Bool) → (ℕ → ResumeFault) → ℕ → List X
+    → Option ResumeFault
 first_failing test fault place [] = None
-first_failing test fault place (x ∷ xs) = if test place x then first_failing test fault (place + 1) xs else Some (fault place)
+first_failing test fault place (x ∷ xs) =
+    if test place x then first_failing test fault (place + 1) xs else Some (fault place)
 
 -- the fault of an update that is refused at that place
 abbrev pub refused_at : ℕ → ApplyFault → ResumeFault
@@ -43,22 +45,26 @@ refused_at place ApplyFault.NoMemory = ResumeFault.NoMemory
 refused_at place fault = Apply place fault
 
 -- the fault of one update, or what comes after it
-abbrev pub update_fault : ℕ → Result (List Layer) ApplyFault → (List Layer → Option ResumeFault) → Option ResumeFault
+abbrev pub update_fault : ℕ → Result (List Layer) ApplyFault → (List Layer → Option ResumeFault)
+    → Option ResumeFault
 update_fault place (Ok new) later = later new
 update_fault place (Err fault) later = Some (Apply place fault)
 
 -- an update that is refused over the data that those before it leave
 unfoldable pub apply_fault : FarmPlan → List Layer → ℕ → List Past → Option ResumeFault
 apply_fault plan layers place [] = None
-apply_fault plan layers place (c ∷ cs) = update_fault place (update_result (update_of plan (past_number c)) layers) (λ new. apply_fault plan new (place + 1) cs)
+apply_fault plan layers place (c ∷ cs) = update_fault place (update_result
+    (update_of plan (past_number c)) layers) (λ new. apply_fault plan new (place + 1) cs)
 
--- The first fault but those of the updates themselves: another number of maps; a style that is none of its map; an update that
--- is not in the table, whose place is counted on from those of the styles; a clean key that the plan does not have.
+-- The first fault but those of the updates themselves: another number of maps; a style that is none
+-- of its map; an update that is not in the table, whose place is counted on from those of the
+-- styles; a clean key that the plan does not have.
 abbrev pub form_fault : FarmPlan → Saving → Option ResumeFault
 form_fault plan s =
     if length s.styles == length plan.maps
     then option_or (first_failing (is_style_at plan) (λ place. Number place) 0 s.styles)
-    (option_or (first_failing (λ place c. nat_lt (past_number c) (length plan.updates)) (λ place. Number (length s.styles + place)) 0 s.updates)
+    (option_or (first_failing (λ place c. nat_lt (past_number c) (length plan.updates))
+    (λ place. Number (length s.styles + place)) 0 s.updates)
     (first_failing (λ place x. can_show plan x.key) (λ place. NotKept place) 0 s.clean))
     else Some (Maps (length s.styles))
 

@@ -71,7 +71,8 @@ impl Job {
           plan = share.plan;
           data_now = share.data_now;
         } }
-        ensures tile { Some result.tile ≡ option_map (λ mp. mp.tile) (slice_get share.plan.maps key.map) }
+        ensures tile { Some result.tile
+            ≡ option_map (λ mp. mp.tile) (slice_get share.plan.maps key.map) }
     {
         let tile = share.setup().tile_size(key.map);
         Job {

@@ -190,7 +190,8 @@ impl Setup {
     /// The style that the map was last given, by its number, or else its own.
     pub fn style(&self, map: u32, styled: Option<u32>) -> &MapStyle
         requires { map < length self.now.maps }
-        ensures { Some result.now ≡ option_map (λ mp. styled_as self.now mp styled) (slice_get self.now.maps map) }
+        ensures { Some result.now
+            ≡ option_map (λ mp. styled_as self.now mp styled) (slice_get self.now.maps map) }
     {
         let own = &self.maps[map as usize];
         let Some(number) = styled else {
@@ -270,7 +271,8 @@ impl Share {
 /// So many shares of the same, in a vector that has room for as many.
 #[tactic(auto, using(crate::proofs::Replicas::replicate_push))]
 pub fn make_shares(alloc: Global, share: &Share, count: u32) -> Result<Vec<Share>, NoMemory>
-    ensures { IfOk result (λ made. (made.items ≡ replicate count share.now) × (count ≤ vec_capacity made)) }
+    ensures { IfOk result
+        (λ made. (made.items ≡ replicate count share.now) × (count ≤ vec_capacity made)) }
 {
     let mut made = Vec::with_capacity(alloc, count as usize)?;
     for _n in 0..count {

@@ -29,7 +29,12 @@ impl Model for Taken {
 
     ghost Value = { Taken };
 
-    ghost view = { λ t. record { ticket = t.ticket; key = t.key; version = t.version; touched = t.touched } };
+    ghost view = { λ t. record {
+      ticket = t.ticket;
+      key = t.key;
+      version = t.version;
+      touched = t.touched;
+    } };
 
     ghost inverse = { λ t. record { ticket = t.ticket; key = t.key; version = t.version; touched = t.touched } };
 }
@@ -63,7 +68,12 @@ pub fn drop_taken(taken: &mut Vec<Taken>, ticket: u64)
 
 /// The drawing, which something touches where that is said.
 pub fn overtaken(one: Taken, meets: bool) -> Taken
-    ensures { result ≡ record { ticket = one.ticket; key = one.key; version = one.version; touched = meets || one.touched } }
+    ensures { result ≡ record {
+      ticket = one.ticket;
+      key = one.key;
+      version = one.version;
+      touched = meets || one.touched;
+    } }
 {
     Taken {
         ticket: one.ticket,

@@ -15,8 +15,9 @@ use Rattle.render_queues.specs.declared.asks.Asked.{Asked}
 use Rattle.render_queues.specs.declared.standing.Standing.{Standing}
 use Rattle.render_queues.specs.declared.standing.Standing.TheVariants.{Waits as InLine, Taken}
 
--- The tables: the five queues, and what is taken. Chains are seen in one list: each ask that waits, with its key, in the order
--- in which they came. Replies are in the order in which their drawings ended, and those of one drawing in the order of its chain
+-- The tables: the five queues, and what is taken. Chains are seen in one list: each ask that waits,
+-- with its key, in the order in which they came. Replies are in the order in which their drawings
+-- ended, and those of one drawing in the order of its chain
 pub record Tables : Type 0 where
   pub lines : Lines
   -- how many keys may be taken
@@ -28,11 +29,23 @@ pub record Tables : Type 0 where
 
 -- queues in which nothing waits
 abbrev pub no_lines : Limits → Lines
-no_lines limits = record { prio = no_line limits.prio; request = no_line limits.request; low = no_line limits.low; dirty = no_line limits.dirty; bulk = no_line limits.bulk }
+no_lines limits = record {
+  prio = no_line limits.prio;
+  request = no_line limits.request;
+  low = no_line limits.low;
+  dirty = no_line limits.dirty;
+  bulk = no_line limits.bulk;
+}
 
 -- tables in which nothing stands
 abbrev pub no_tables : Limits → ℕ → Tables
-no_tables limits workers = record { lines = no_lines limits; workers = workers; taken = []; asks = []; ended = [] }
+no_tables limits workers = record {
+  lines = no_lines limits;
+  workers = workers;
+  taken = [];
+  asks = [];
+  ended = [];
+}
 
 -- one of the queues
 abbrev pub line_of : Lines → Queue → Line
@@ -52,7 +65,8 @@ with_line ls Queue.Bulk l = record ls { bulk = l }
 
 -- the key goes last in that queue
 abbrev pub with_last : Lines → Queue → Key → Lines
-with_last ls queue key = with_line ls queue (record (line_of ls queue) { keys = (line_of ls queue).keys ++ key ∷ [] })
+with_last ls queue key =
+    with_line ls queue (record (line_of ls queue) { keys = (line_of ls queue).keys ++ key ∷ [] })
 
 -- the key is out of that queue
 abbrev pub cut_from : Lines → Queue → Key → Lines
@@ -74,11 +88,13 @@ out_of_all ls key = record {
 
 -- the first that waits in that queue
 abbrev pub first_of : Lines → Queue → Option Waits
-first_of ls queue = option_map (λ key. record { queue = queue; key = key }) (slice_get (line_of ls queue).keys 0)
+first_of ls queue =
+    option_map (λ key. record { queue = queue; key = key }) (slice_get (line_of ls queue).keys 0)
 
 -- what is taken next: the first of the first queue that is not empty, in renderd's order
 abbrev pub next_of : Lines → Option Waits
-next_of ls = option_or (first_of ls Queue.Prio) (option_or (first_of ls Queue.Request) (option_or (first_of ls Queue.Low) (option_or (first_of ls Queue.Dirty) (first_of ls Queue.Bulk))))
+next_of ls = option_or (first_of ls Queue.Prio) (option_or (first_of ls Queue.Request) (option_or
+    (first_of ls Queue.Low) (option_or (first_of ls Queue.Dirty) (first_of ls Queue.Bulk))))
 
 -- whether an ask waits for the key
 abbrev pub waits_on : Key → Asked → Bool
@@ -139,7 +155,8 @@ after_lift t queue key = record t { lines = with_last (lifted_out t.lines key) q
 -- what is taken goes from its queue to the taken keys, last; its chain stays
 abbrev pub after_take : Tables → Option Waits → Tables
 after_take t None = t
-after_take t (Some w) = record t { lines = cut_from t.lines w.queue w.key; taken = t.taken ++ w.key ∷ [] }
+after_take t (Some w) =
+    record t { lines = cut_from t.lines w.queue w.key; taken = t.taken ++ w.key ∷ [] }
 
 -- the reply to an ask that waited
 abbrev pub reply_with : Outcome → Asked → Reply
@@ -182,7 +199,8 @@ how_often key keys = count_by (λ k. same_key k key) keys
 
 -- how often the key waits
 abbrev pub waits_often : Key → Lines → ℕ
-waits_often key ls = how_often key ls.prio.keys + how_often key ls.request.keys + how_often key ls.low.keys + how_often key ls.dirty.keys + how_often key ls.bulk.keys
+waits_often key ls = how_often key ls.prio.keys + how_often key ls.request.keys
+    + how_often key ls.low.keys + how_often key ls.dirty.keys + how_often key ls.bulk.keys
 
 -- how often the key stands: taken, or in a queue
 abbrev pub stands_often : Key → Tables → ℕ
@@ -196,8 +214,8 @@ chain_length key t = count_by (waits_on key) t.asks
 abbrev pub IsWithin : Line → Type 0
 IsWithin l = length l.keys ≤ l.limit
 
--- What is true of all tables: no key stands twice, what an ask waits for stands, no queue is past its limit,
--- no more are taken than there are workers, and at most 4,096 asks are open
+-- What is true of all tables: no key stands twice, what an ask waits for stands, no queue is past
+-- its limit, no more are taken than there are workers, and at most 4,096 asks are open
 pub record AreSound (t : Tables) : Type 0 where
   pub once : (key : Key) → stands_often key t ≤ 1
   pub awaited : (key : Key) → stands_often key t ≡ 0 → chain_length key t ≡ 0

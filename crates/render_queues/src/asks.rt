@@ -25,7 +25,8 @@ impl Asked {
 /// Adds the replies to the asks that wait for the key.
 pub(crate) fn reply_all(asks: &[Asked], key: Key, outcome: Outcome, ended: &mut Vec<Reply>)
     requires room { vec_len ended.old + length asks.now ≤ vec_capacity ended.old }
-    ensures replies { ended.new.items ≡ ended.old.items ++ map (reply_with outcome) (filter (waits_on key) asks.now) }
+    ensures replies { ended.new.items
+        ≡ ended.old.items ++ map (reply_with outcome) (filter (waits_on key) asks.now) }
     ensures room { vec_capacity ended.new ≡ vec_capacity ended.old }
 {
     for ask in asks {

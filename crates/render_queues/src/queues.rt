@@ -109,7 +109,8 @@ impl Queues {
         requires new { standing self.old key ≡ None }
         requires few { IsSome waiter → open_count self.old < most_asks }
         ensures room { result ≡ is_below (line_of self.old.lines queue) }
-        ensures tables { self.new ≡ (if is_below (line_of self.old.lines queue) then after_join (after_place self.old queue key) key waiter else self.old) }
+        ensures tables { self.new ≡ (if is_below (line_of self.old.lines queue)
+            then after_join (after_place self.old queue key) key waiter else self.old) }
     {
         if !self.lines.has_room(queue) {
             return false;
@@ -135,7 +136,8 @@ impl Queues {
         requires queue { takes_lifted queue ≡ true }
         requires few { open_count self.old < most_asks }
         ensures room { result ≡ is_below (line_of self.old.lines queue) }
-        ensures tables { self.new ≡ (if is_below (line_of self.old.lines queue) then after_join (after_lift self.old queue key) key (Some waiter) else self.old) }
+        ensures tables { self.new ≡ (if is_below (line_of self.old.lines queue)
+            then after_join (after_lift self.old queue key) key (Some waiter) else self.old) }
     {
         if !self.lines.has_room(queue) {
             return false;
@@ -178,7 +180,8 @@ impl Queues {
     /// Takes out the first reply for the front.
     pub fn collect(&mut self, front: u32) -> Option<Reply>
         ensures first { result ≡ find (is_of_front front) self.old.ended }
-        ensures tables { self.new ≡ record self.old { ended = without_first (is_of_front front) self.old.ended } }
+        ensures tables { self.new
+            ≡ record self.old { ended = without_first (is_of_front front) self.old.ended } }
     {
         first_reply(&mut self.ended, front)
     }

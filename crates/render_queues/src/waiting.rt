@@ -43,7 +43,8 @@ impl Model for Waiting {
       empty : w.other.entries ≡ [];
       other_room : twice_room w.limits ≤ spare w.other;
       live_room : twice_room w.limits ≤ index_map_len w.live + spare w.live;
-      counts : (queue : Queue) → length (keys_in queue w.live.entries) + limit_of w.left queue ≡ limit_of w.limits queue;
+      counts : (queue : Queue)
+          → length (keys_in queue w.live.entries) + limit_of w.left queue ≡ limit_of w.limits queue;
     } };
 }
 
@@ -127,10 +128,13 @@ fn make_place(
     requires fits { length (still_there live.old.entries) < spare other.old }
     requires new { lookup (same_key key) (still_there live.old.entries) ≡ None }
     ensures empty { other.new.entries ≡ [] }
-    ensures same { (queue : Queue) → keys_in queue live.new.entries ≡ keys_in queue live.old.entries }
+    ensures same { (queue : Queue)
+        → keys_in queue live.new.entries ≡ keys_in queue live.old.entries }
     ensures new { lookup (same_key key) live.new.entries ≡ None }
     ensures place { 0 < spare live.new }
-    ensures room { (room : ℕ) → room ≤ spare other.old → room ≤ index_map_len live.old + spare live.old → (room ≤ spare other.new) × (room ≤ index_map_len live.new + spare live.new) }
+    ensures room { (room : ℕ)
+        → room ≤ spare other.old → room ≤ index_map_len live.old + spare live.old
+        → (room ≤ spare other.new) × (room ≤ index_map_len live.new + spare live.new) }
 {
     if live.contains_key(&key) || live.len() == live.capacity() {
         sift(live, other);

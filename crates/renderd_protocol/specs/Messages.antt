@@ -11,8 +11,8 @@ use Rattle.renderd_protocol.specs.declared.messages.Found.TheVariants.{Message, 
 abbrev pub is_version : ℕ → Bool
 is_version version = version == 1 || (version == 2 || version == 3)
 
--- how many bytes a message of a version has: the numbers; the name and 3 bytes of padding; the name,
--- the kind, the options and 1 byte of padding
+-- how many bytes a message of a version has: the numbers; the name and 3 bytes of padding; the
+-- name, the kind, the options and 1 byte of padding
 abbrev pub message_len : ℕ → ℕ
 message_len version = if version == 1 then 20 else if version == 2 then 64 else 144
 
@@ -65,7 +65,8 @@ abbrev pub texts_of : Request → List ℕ
 texts_of request =
     if request.ver == 1 then []
     else if request.ver == 2 then field_of request.name.items ++ replicate 3 0
-    else field_of request.name.items ++ field_of request.mime.items ++ field_of request.options.items ++ replicate 1 0
+    else field_of request.name.items ++ field_of request.mime.items
+    ++ field_of request.options.items ++ replicate 1 0
 
 -- the message of a request with a command: the texts that its version has no place for are left out
 unfoldable pub wire_of : Request → ℕ → List ℕ

@@ -37,13 +37,15 @@ pub record StreamRead : Type 0 where
 
 -- what is taken, by what stands at the head of the bytes; `later` takes of the bytes after a length
 abbrev pub taken_at : (ℕ → StreamRead) → List ℕ → Found → StreamRead
-taken_at later bytes (Message request len) = record { requests = request ∷ (later len).requests; rest = (later len).rest }
+taken_at later bytes (Message request len) =
+    record { requests = request ∷ (later len).requests; rest = (later len).rest }
 taken_at later bytes _ = record { requests = []; rest = bytes }
 
 -- what is taken of the bytes, message by message, in at most so many turns
 abbrev pub taken_in : ℕ → List ℕ → StreamRead
 taken_in zero bytes = record { requests = []; rest = bytes }
-taken_in (suc turns) bytes = taken_at (λ len. taken_in turns (drop len bytes)) bytes (found_in bytes)
+taken_in (suc turns) bytes =
+    taken_at (λ len. taken_in turns (drop len bytes)) bytes (found_in bytes)
 
 -- all that is taken of the bytes: no message is empty, so no more turns are needed than bytes
 unfoldable pub stream_read : List ℕ → StreamRead
@@ -66,7 +68,8 @@ AnyPieces = (pieces : List (List ℕ)) → taken_by_pieces pieces ≡ stream_rea
 
 -- The requests that are taken are those of the whole messages that stand at the head of the bytes.
 abbrev pub TakesMessages : Type 0
-TakesMessages = (bytes : List ℕ) → (messages : List (List ℕ)) × Splits bytes messages (stream_read bytes).rest
+TakesMessages =
+    (bytes : List ℕ) → (messages : List (List ℕ)) × Splits bytes messages (stream_read bytes).rest
     × ((stream_read bytes).requests ≡ map request_in messages)
 
 -- Bytes split into messages and a rest in one way alone.
@@ -74,14 +77,17 @@ abbrev pub SplitsOneWay : Type 0
 SplitsOneWay = (bytes : List ℕ) (messages others : List (List ℕ)) (rest left : List ℕ)
     → Splits bytes messages rest → Splits bytes others left → (messages ≡ others) × (rest ≡ left)
 
--- Where the bytes begin with a whole message, it is found, whatever follows it; and what is found is
--- such a message.
+-- Where the bytes begin with a whole message, it is found, whatever follows it; and what is found
+-- is such a message.
 abbrev pub FindsMessages : Type 0
-FindsMessages = ((message more : List ℕ) → IsMessage message → found_in (message ++ more) ≡ Message (request_in message) (length message))
+FindsMessages = ((message more : List ℕ) → IsMessage message
+    → found_in (message ++ more) ≡ Message (request_in message) (length message))
     × ((bytes : List ℕ) (request : Request) (len : ℕ) → found_in bytes ≡ Message request len
-    → (message more : List ℕ) × IsMessage message × (bytes ≡ message ++ more) × (len ≡ length message) × (request ≡ request_in message))
+    → (message more : List ℕ) × IsMessage message × (bytes ≡ message ++ more)
+    × (len ≡ length message) × (request ≡ request_in message))
 
 -- What was written is read back, whatever follows it.
 abbrev pub ReadsBack : Type 0
 ReadsBack = (request : Request) (cmd : ℕ) (more : List ℕ) → IsCarried request → cmd < 2 ^ 32
-    → found_in (wire_of request cmd ++ more) ≡ Message (record request { cmd = cmd }) (message_len request.ver)
+    → found_in (wire_of request cmd ++ more)
+    ≡ Message (record request { cmd = cmd }) (message_len request.ver)

@@ -58,12 +58,14 @@ ask_line ask.Silent = codes "silent\n"
 
 -- ---- drawings
 
--- The line of a claim on a farm whose maps have these names. Of a drawing to make: its ticket, its map's name, the numbers of
--- the metatile's lowest tile, and the data version.
+-- The line of a claim on a farm whose maps have these names. Of a drawing to make: its ticket, its
+-- map's name, the numbers of the metatile's lowest tile, and the data version.
 abbrev pub claim_line : List (List ℕ) → ClaimAnswer → List ℕ
 claim_line names (claim.Job ticket key version) =
-    codes "job " ++ decimal ticket ++ codes " " ++ unwrap_or (slice_get names key.map) [] ++ codes " "
-    ++ (decimal key.meta.z ++ codes " " ++ decimal key.meta.x ++ codes " " ++ decimal key.meta.y) ++ codes " " ++ decimal version ++ codes "\n"
+    codes "job " ++ decimal ticket ++ codes " " ++ unwrap_or (slice_get names key.map) []
+    ++ codes " "
+    ++ (decimal key.meta.z ++ codes " " ++ decimal key.meta.x ++ codes " " ++ decimal key.meta.y)
+    ++ codes " " ++ decimal version ++ codes "\n"
 claim_line names claim.Idle = codes "idle\n"
 claim_line names claim.Crowded = codes "crowded\n"
 claim_line names claim.Stopped = codes "stopped\n"
@@ -94,9 +96,11 @@ abbrev pub restyle_line : Restyled → List ℕ
 restyle_line (restyled.Styled count) = number_line (codes "styled ") count
 restyle_line restyled.NoRestyle = codes "norestyle\n"
 
--- the line of an update that expires what it reaches: its data version, and how many clean metatiles became dirty
+-- the line of an update that expires what it reaches: its data version, and how many clean
+-- metatiles became dirty
 abbrev pub renew_line : Renewed → Option (List ℕ)
-renew_line (renewed.Version v count) = Some (codes "version " ++ decimal v ++ codes " renewed " ++ decimal count ++ codes "\n")
+renew_line (renewed.Version v count) =
+    Some (codes "version " ++ decimal v ++ codes " renewed " ++ decimal count ++ codes "\n")
 renew_line renewed.NoUpdate = Some (codes "noupdate\n")
 renew_line (renewed.Refused fault) = fault_line fault
 
@@ -117,7 +121,8 @@ meta_number (container.Index place) = 6
 
 -- a tile: a line with its version and the number of its bytes, then these and a newline
 abbrev pub tile_text : List ℕ → ℕ → List ℕ → List ℕ
-tile_text word version bytes = (word ++ decimal version ++ codes " " ++ decimal (length bytes) ++ codes "\n") ++ (bytes ++ codes "\n")
+tile_text word version bytes = (word ++ decimal version ++ codes " " ++ decimal (length bytes)
+    ++ codes "\n") ++ (bytes ++ codes "\n")
 
 -- the text of a fetch
 abbrev pub fetch_text : Fetched → Option (List ℕ)
@@ -147,14 +152,16 @@ outcome_word outcome.Cut = codes " cut\n"
 
 -- the line of a collect: the connection's number, the ask's and the outcome
 abbrev pub collect_line : Collected → List ℕ
-collect_line (collected.Reply r) = codes "reply " ++ decimal r.conn.number ++ codes " " ++ decimal r.ask ++ outcome_word r.outcome
+collect_line (collected.Reply r) =
+    codes "reply " ++ decimal r.conn.number ++ codes " " ++ decimal r.ask ++ outcome_word r.outcome
 collect_line collected.Stopped = codes "stopped\n"
 collect_line collected.Empty = codes "empty\n"
 
 -- the line of the counts
 abbrev pub tally_line : Totals → List ℕ
 tally_line t =
-    codes "asks " ++ decimal t.asks ++ codes " done " ++ decimal t.done ++ codes " stored " ++ decimal t.stored ++ codes " version "
+    codes "asks " ++ decimal t.asks ++ codes " done " ++ decimal t.done ++ codes " stored "
+    ++ decimal t.stored ++ codes " version "
     ++ decimal t.version ++ codes "\n"
 
 -- the line of a stop
@@ -163,7 +170,8 @@ stop_line = codes "stopping\n"
 
 -- ---- entries
 
--- the text of an entry of a farm whose maps have these names; none where there was no memory, but for a drawing that was cut
+-- the text of an entry of a farm whose maps have these names; none where there was no memory, but
+-- for a drawing that was cut
 abbrev pub entry_text : List (List ℕ) → Entry → Option (List ℕ)
 entry_text names (Ask conn cmd spot answer) = Some (ask_line answer)
 entry_text names (Claim worker answer) = Some (claim_line names answer)

@@ -42,7 +42,8 @@ fn job_line(
 /// The line of a claim: `job T MAP Z X Y V` with the lowest tile of the metatile, `idle`, `crowded` or
 /// `stopped`. `name` is the name of the job's map.
 pub fn claim_line(alloc: Global, name: &str, answer: ClaimAnswer) -> Result<Text, NoMemory>
-    ensures { (names : List (List ℕ)) → parts.NamesJob names name.now answer → IfOk result (λ t. t ≡ spec.claim_line names answer) }
+    ensures { (names : List (List ℕ)) → parts.NamesJob names name.now answer
+        → IfOk result (λ t. t ≡ spec.claim_line names answer) }
 {
     match answer {
         ClaimAnswer::Job(ticket, key, version) => job_line(alloc, ticket, name, key, version),

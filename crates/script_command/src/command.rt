@@ -39,7 +39,8 @@ fn run_on<D: TileStore, O: Sink>(
 ) -> (Result<(), Stop>, D)
     requires { (store : D) × Begins D.state farm.plan None store farm }
     ensures { (store : D) → Begins D.state farm.plan None store farm
-        → Leaves D.state farm.plan store result.1 (λ stands. ScriptsOn farm.plan script.now stands (O.state out.old) (O.state out.new) result.0) }
+        → Leaves D.state farm.plan store result.1 (λ stands. ScriptsOn farm.plan script.now stands
+        (O.state out.old) (O.state out.new) result.0) }
 {
     let mut farm = farm;
     let run = run_noting(alloc, &mut farm, script, out);
@@ -78,7 +79,8 @@ pub fn script<F: Files, O: Sink, D: TileStore>(
     out: &mut O,
     store: D,
 ) -> (Result<(), Stop>, D)
-    ensures { Runs D.state (script_course config.now script.now) (F.state files.old) (F.state files.new) store result.1 (O.state out.old) (O.state out.new) result.0 }
+    ensures { Runs D.state (script_course config.now script.now) (F.state files.old)
+        (F.state files.new) store result.1 (O.state out.old) (O.state out.new) result.0 }
 {
     match script_files(alloc, files, config, script) {
         Ok(scripted) => run_over(alloc, scripted, out, store),

@@ -1,5 +1,5 @@
--- The lines of a script. Words are separated by one space; numbers are decimal without leading zeros. Each
--- reader is given the fault of its line.
+-- The lines of a script. Words are separated by one space; numbers are decimal without leading
+-- zeros. Each reader is given the fault of its line.
 use Rattle.std.specs.Prelude.{ℕ, ◌^◌, nat_le, if◌then◌else◌, List, length, codes, Option, Some, None, Result, Ok, Err}
 use Rattle.std.specs.Option.{ok_or}
 use Rattle.std.specs.Str.{bytes_eq}
@@ -39,7 +39,8 @@ line_tile fault text = do
   y ← number_of fault second.1
   Ok (z, x, y)
 
--- a tile of a map: MAP Z X Y; the map need not be one of the farm, and its name is any word of at least one byte
+-- a tile of a map: MAP Z X Y; the map need not be one of the farm, and its name is any word of at
+-- least one byte
 unfoldable pub place_of : ScriptFault → List ℕ → Result (List ℕ × (ℕ × ℕ × ℕ)) ScriptFault
 place_of fault text = do
   first ← word_of fault text
@@ -75,9 +76,13 @@ line_named fault name rest =
     if bytes_eq name (codes "update") then number_command Update fault rest else
     if bytes_eq name (codes "restyle") then number_command Restyle fault rest else
     if bytes_eq name (codes "renew") then number_command Renew fault rest else
-    if bytes_eq name (codes "expire") then (line_tile fault rest >>= λ tile. Ok (Expire tile.0 tile.1 tile.2)) else
-    if bytes_eq name (codes "fetch") then (place_of fault rest >>= λ place. Ok (Fetch place.0 place.1.0 place.1.1 place.1.2)) else
-    if bytes_eq name (codes "look") then (place_of fault rest >>= λ place. Ok (Look place.0 place.1.0 place.1.1 place.1.2)) else
+    if bytes_eq name (codes "expire")
+    then (line_tile fault rest >>= λ tile. Ok (Expire tile.0 tile.1 tile.2)) else
+    if bytes_eq name (codes "fetch")
+    then (place_of fault rest >>= λ place. Ok (Fetch place.0 place.1.0 place.1.1 place.1.2))
+    else
+    if bytes_eq name (codes "look")
+    then (place_of fault rest >>= λ place. Ok (Look place.0 place.1.0 place.1.1 place.1.2)) else
     if bytes_eq name (codes "collect") then number_command Collect fault rest else
     if bytes_eq name (codes "leave") then number_command Leave fault rest else Err fault
 
@@ -88,7 +93,8 @@ line_alone fault word =
     if bytes_eq word (codes "stop") then Ok Stop else Err fault
 
 -- a line that is cut at its first space, if it has one
-abbrev pub line_cut : ScriptFault → List ℕ → Option (List ℕ × List ℕ) → Result ScriptLine ScriptFault
+abbrev pub line_cut : ScriptFault → List ℕ → Option (List ℕ × List ℕ)
+    → Result ScriptLine ScriptFault
 line_cut fault line None = line_alone fault line
 line_cut fault line (Some p) = line_named fault p.0 p.1
 

@@ -15,7 +15,8 @@ is_skipped (b ∷ bs) = b == 35
 
 -- what a line says, nothing where it is skipped
 unfoldable pub line_read : ScriptFault → List ℕ → Result (Option ScriptLine) ScriptFault
-line_read fault line = if is_skipped line then Ok None else (line_text fault line >>= λ text. script_line_of fault text >>= λ l. Ok (Some l))
+line_read fault line = if is_skipped line then Ok None
+    else (line_text fault line >>= λ text. script_line_of fault text >>= λ l. Ok (Some l))
 
 -- what the bytes of a script say; lines are counted from 1, the skipped ones too
 unfoldable pub script_in : List ℕ → Result (List ScriptLine) ScriptFault

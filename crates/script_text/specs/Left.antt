@@ -8,9 +8,11 @@ use Rattle.farm_refinement.specs.Seen.{FarmSeen}
 use Rattle.farm_refinement.specs.Stands.{StandsFor}
 use Rattle.farm_core.specs.Answers.{at_saved}
 
--- A farm of the plan was started over one store and left another, and it ran so: `ran` says it of the histories that it
--- stands for at its end. It is told what the store holds where the store tells that.
-pub record Leaves {D : Type 0} (state : D → Outside StoreTold) (plan : FarmPlan) (store store' : D) (ran : (List Entry → Type 0) → Type 0) : Type 0 where
+-- A farm of the plan was started over one store and left another, and it ran so: `ran` says it of
+-- the histories that it stands for at its end. It is told what the store holds where the store
+-- tells that.
+pub record Leaves {D : Type 0} (state : D → Outside StoreTold) (plan : FarmPlan) (store store' : D)
+    (ran : (List Entry → Type 0) → Type 0) : Type 0 where
   pub farm : FarmSeen D
   pub plan_is : farm.plan ≡ plan
   pub first_is : farm.first ≡ store

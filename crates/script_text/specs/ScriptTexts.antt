@@ -47,7 +47,8 @@ numbered_tile z x y = record { z = z; x = x; y = y }
 
 -- the entry is that of the line, with some answer; a `finish` is of a drawing, a `cut` of none
 abbrev pub IsEntryOf : FarmPlan → ScriptLine → Entry → Type 0
-IsEntryOf plan (line.Ask c cmd name z x y) e = (answer : AskAnswer) × (e ≡ entry.Ask (conn_of c) cmd (script_spot plan name z x y) answer)
+IsEntryOf plan (line.Ask c cmd name z x y) e =
+    (answer : AskAnswer) × (e ≡ entry.Ask (conn_of c) cmd (script_spot plan name z x y) answer)
 IsEntryOf plan (line.Claim worker) e = (answer : ClaimAnswer) × (e ≡ entry.Claim worker answer)
 IsEntryOf plan (line.Finish ticket) e = (answer : Finished) × (e ≡ entry.Finish ticket true answer)
 IsEntryOf plan (line.Cut ticket) e = (answer : Finished) × (e ≡ entry.Finish ticket false answer)
@@ -55,8 +56,10 @@ IsEntryOf plan (line.Update n) e = (answer : Updated) × (e ≡ entry.Update n a
 IsEntryOf plan (line.Restyle n) e = (answer : Restyled) × (e ≡ entry.Restyle n answer)
 IsEntryOf plan (line.Renew n) e = (answer : Renewed) × (e ≡ entry.Renew n answer)
 IsEntryOf plan (line.Expire z x y) e = (count : ℕ) × (e ≡ entry.Expire (numbered_tile z x y) count)
-IsEntryOf plan (line.Fetch name z x y) e = (answer : Fetched) × (e ≡ entry.Fetch (script_spot plan name z x y) answer)
-IsEntryOf plan (line.Look name z x y) e = (answer : Looked) × (e ≡ entry.Look (script_spot plan name z x y) answer)
+IsEntryOf plan (line.Fetch name z x y) e =
+    (answer : Fetched) × (e ≡ entry.Fetch (script_spot plan name z x y) answer)
+IsEntryOf plan (line.Look name z x y) e =
+    (answer : Looked) × (e ≡ entry.Look (script_spot plan name z x y) answer)
 IsEntryOf plan (line.Collect front) e = (answer : Collected) × (e ≡ entry.Collect front answer)
 IsEntryOf plan (line.Leave c) e = (count : ℕ) × (e ≡ entry.Leave (conn_of c) count)
 IsEntryOf plan line.Tally e = (totals : Tally) × (e ≡ entry.Tally totals)
@@ -73,7 +76,8 @@ hand_after hand e = hand
 abbrev pub is_in_hand : List ℕ → ℕ → Bool
 is_in_hand hand ticket = list_any (λ t. t == ticket) hand
 
--- the line has an event, where these tickets are in hand: a drawing that ends is in hand, and a tile that is expired is one
+-- the line has an event, where these tickets are in hand: a drawing that ends is in hand, and a
+-- tile that is expired is one
 abbrev pub HasEvent : List ℕ → ScriptLine → Type 0
 HasEvent hand (line.Finish ticket) = is_in_hand hand ticket ≡ true
 HasEvent hand (line.Cut ticket) = is_in_hand hand ticket ≡ true
@@ -84,7 +88,8 @@ HasEvent hand l = Unit {0}
 abbrev pub HasNone : List ℕ → ScriptLine → List ℕ → Type 0
 HasNone hand (line.Finish ticket) said = (is_in_hand hand ticket ≡ false) × (said ≡ codes "nojob\n")
 HasNone hand (line.Cut ticket) said = (is_in_hand hand ticket ≡ false) × (said ≡ codes "nojob\n")
-HasNone hand (line.Expire z x y) said = ¬ (IsTile (numbered_tile z x y)) × (said ≡ codes "unservable\n")
+HasNone hand (line.Expire z x y) said =
+    ¬ (IsTile (numbered_tile z x y)) × (said ≡ codes "unservable\n")
 HasNone hand l said = ⊥
 
 -- ---- failures of the store
@@ -101,21 +106,26 @@ has_failed h = list_any is_failed h
 
 -- ---- texts
 
--- A line on a farm with this history, where these tickets are in hand: the tickets and the history behind
--- it, and what is put. Histories are newest first.
-pub data LineText (plan : FarmPlan) (l : ScriptLine) (hand : List ℕ) (before : List Entry) (hand' : List ℕ) (after : List Entry) (said : List ℕ) : Type 0 where
-  unheard : HasNone hand l said → hand' ≡ hand → after ≡ before → LineText plan l hand before hand' after said
-  entered : (e : Entry) → HasEvent hand l → IsEntryOf plan l e → entry_text (names_of plan) e ≡ Some said → hand' ≡ hand_after hand e → after ≡ e ∷ before
+-- A line on a farm with this history, where these tickets are in hand: the tickets and the history
+-- behind it, and what is put. Histories are newest first.
+pub data LineText (plan : FarmPlan) (l : ScriptLine) (hand : List ℕ) (before : List Entry)
+    (hand' : List ℕ) (after : List Entry) (said : List ℕ) : Type 0 where
+  unheard : HasNone hand l said → hand' ≡ hand → after ≡ before
+      → LineText plan l hand before hand' after said
+  entered : (e : Entry) → HasEvent hand l → IsEntryOf plan l e
+      → entry_text (names_of plan) e ≡ Some said → hand' ≡ hand_after hand e → after ≡ e ∷ before
       → LineText plan l hand before hand' after said
 
 -- the same for lines one after another
-abbrev pub LinesText : FarmPlan → List ScriptLine → List ℕ → List Entry → List ℕ → List Entry → List ℕ → Type 0
+abbrev pub LinesText : FarmPlan → List ScriptLine → List ℕ → List Entry → List ℕ → List Entry
+    → List ℕ → Type 0
 LinesText plan [] hand before hand' after text = (hand' ≡ hand) × (after ≡ before) × (text ≡ [])
 LinesText plan (l ∷ ls) hand before hand' after text =
     (held : List ℕ) × (middle : List Entry) × (said : List ℕ) × (rest : List ℕ)
-    × LineText plan l hand before held middle said × LinesText plan ls held middle hand' after rest × (text ≡ said ++ rest)
+    × LineText plan l hand before held middle said × LinesText plan ls held middle hand' after rest
+    × (text ≡ said ++ rest)
 
--- The text of these lines, run on a farm with one history, after which it has another. No ticket is in
--- hand before the first.
+-- The text of these lines, run on a farm with one history, after which it has another. No ticket is
+-- in hand before the first.
 abbrev pub ScriptText : FarmPlan → List ScriptLine → List Entry → List Entry → List ℕ → Type 0
 ScriptText plan ls before after text = (hand : List ℕ) × LinesText plan ls [] before hand after text

@@ -26,8 +26,10 @@ fn expire_at<D: TileStore>(
     place: (u32, u32, u32),
 ) -> Result<LineAnswer, NoMemory>
     requires { farm.old.counts.turns < 2 ^ 63 }
-    ensures step { (store_tells : Bool) (g : List Entry) → StandsFor D.state store_tells farm.old g → HandStands farm.old.plan g hand.old.items
-        → Answers D.state store_tells farm.new farm.old.plan (line.Expire place.0 place.1 place.2) g hand.old.items hand.new.items result }
+    ensures step { (store_tells : Bool) (g : List Entry) → StandsFor D.state store_tells farm.old g
+        → HandStands farm.old.plan g hand.old.items
+        → Answers D.state store_tells farm.new farm.old.plan (line.Expire place.0 place.1 place.2)
+        g hand.old.items hand.new.items result }
     ensures kept { Lasts D.state farm.old farm.new }
 {
     let (z, x, y) = place;
@@ -45,8 +47,10 @@ pub(crate) fn answer<D: TileStore>(
     l: &ScriptLine,
 ) -> Result<LineAnswer, NoMemory>
     requires turns { farm.old.counts.turns < 2 ^ 63 }
-    requires stands { (store_tells : Bool) × (g : List Entry) × StandsFor D.state store_tells farm.old g × HandStands farm.old.plan g hand.old.items }
-    ensures step { (store_tells : Bool) (g : List Entry) → StandsFor D.state store_tells farm.old g → HandStands farm.old.plan g hand.old.items
+    requires stands { (store_tells : Bool) × (g : List Entry)
+        × StandsFor D.state store_tells farm.old g × HandStands farm.old.plan g hand.old.items }
+    ensures step { (store_tells : Bool) (g : List Entry) → StandsFor D.state store_tells farm.old g
+        → HandStands farm.old.plan g hand.old.items
         → Answers D.state store_tells farm.new farm.old.plan l.now g hand.old.items hand.new.items result }
     ensures kept { Lasts D.state farm.old farm.new }
 {

@@ -42,7 +42,8 @@ pub(crate) fn ask<D: TileStore>(
     place: (u32, u32, u32),
 ) -> Result<LineAnswer, NoMemory>
     requires { farm.old.counts.turns < 2 ^ 63 }
-    ensures step { EntersFrom D.state farm.old farm.new (line.Ask number cmd map.now place.0 place.1 place.2) result }
+    ensures step { EntersFrom D.state farm.old farm.new
+        (line.Ask number cmd map.now place.0 place.1 place.2) result }
     ensures kept { Lasts D.state farm.old farm.new }
 {
     let spot = spot_at(farm, map, place);
@@ -115,7 +116,8 @@ pub(crate) fn fetch<D: TileStore>(
     place: (u32, u32, u32),
 ) -> Result<LineAnswer, NoMemory>
     requires { farm.old.counts.turns < 2 ^ 63 }
-    ensures step { EntersFrom D.state farm.old farm.new (line.Fetch map.now place.0 place.1 place.2) result }
+    ensures step { EntersFrom D.state farm.old farm.new
+        (line.Fetch map.now place.0 place.1 place.2) result }
     ensures kept { Lasts D.state farm.old farm.new }
 {
     let spot = spot_at(farm, map, place);
@@ -131,7 +133,8 @@ pub(crate) fn look<D: TileStore>(
     place: (u32, u32, u32),
 ) -> Result<LineAnswer, NoMemory>
     requires { farm.old.counts.turns < 2 ^ 63 }
-    ensures step { EntersFrom D.state farm.old farm.new (line.Look map.now place.0 place.1 place.2) result }
+    ensures step { EntersFrom D.state farm.old farm.new
+        (line.Look map.now place.0 place.1 place.2) result }
     ensures kept { Lasts D.state farm.old farm.new }
 {
     let spot = spot_at(farm, map, place);

@@ -38,7 +38,8 @@ pub(crate) fn take_job(hand: &mut Vec<Job>, ticket: u64) -> Option<Job>
 
 fn job_line<D>(alloc: Global, farm: &Farm<D>, job: &Job) -> Result<Text, NoMemory>
     requires { job.now.plan ≡ farm.now.plan }
-    ensures { IfOk result (λ t. t ≡ claim_line (names_of farm.now.plan) (ClaimAnswer.Job job.now.ticket (job_key job.now) job.now.version)) }
+    ensures { IfOk result (λ t. t ≡ claim_line (names_of farm.now.plan)
+        (ClaimAnswer.Job job.now.ticket (job_key job.now) job.now.version)) }
 {
     let answer = ClaimAnswer::Job(job.ticket, job.key(), job.version);
     claim_line(alloc, farm.map_name(job.map), answer)
@@ -51,7 +52,11 @@ fn take_in_hand<D>(
     job: Job,
 ) -> Result<LineAnswer, NoMemory>
     requires { job.plan ≡ farm.now.plan }
-    ensures said { IfOk result (λ s. s ≡ record { text = claim_line (names_of farm.now.plan) (ClaimAnswer.Job job.ticket (job_key job) job.version); failed = false }) }
+    ensures said { IfOk result (λ s. s ≡ record {
+      text = claim_line (names_of farm.now.plan)
+          (ClaimAnswer.Job job.ticket (job_key job) job.version);
+      failed = false;
+    }) }
     ensures hand { OnOk result (hand.new.items ≡ hand.old.items ++ job ∷ []) }
 {
     let line = job_line(alloc, farm, &job)?;
@@ -67,9 +72,12 @@ pub(crate) fn claim<D: TileStore>(
     worker: u32,
 ) -> Result<LineAnswer, NoMemory>
     requires turns { farm.old.counts.turns < 2 ^ 63 }
-    requires stands { (store_tells : Bool) × (g : List Entry) × StandsFor D.state store_tells farm.old g }
-    ensures step { (store_tells : Bool) (g : List Entry) → StandsFor D.state store_tells farm.old g → HandStands farm.old.plan g hand.old.items
-        → Answers D.state store_tells farm.new farm.old.plan (line.Claim worker) g hand.old.items hand.new.items result }
+    requires stands { (store_tells : Bool) × (g : List Entry)
+        × StandsFor D.state store_tells farm.old g }
+    ensures step { (store_tells : Bool) (g : List Entry) → StandsFor D.state store_tells farm.old g
+        → HandStands farm.old.plan g hand.old.items
+        → Answers D.state store_tells farm.new farm.old.plan (line.Claim worker)
+        g hand.old.items hand.new.items result }
     ensures kept { Lasts D.state farm.old farm.new }
 {
     match farm.claim(worker) {
@@ -98,9 +106,12 @@ pub(crate) fn finish<D: TileStore>(
     ticket: u64,
 ) -> Result<LineAnswer, NoMemory>
     requires turns { farm.old.counts.turns < 2 ^ 63 }
-    requires stands { (store_tells : Bool) × (g : List Entry) × StandsFor D.state store_tells farm.old g × HandStands farm.old.plan g hand.old.items }
-    ensures step { (store_tells : Bool) (g : List Entry) → StandsFor D.state store_tells farm.old g → HandStands farm.old.plan g hand.old.items
-        → Answers D.state store_tells farm.new farm.old.plan (line.Finish ticket) g hand.old.items hand.new.items result }
+    requires stands { (store_tells : Bool) × (g : List Entry)
+        × StandsFor D.state store_tells farm.old g × HandStands farm.old.plan g hand.old.items }
+    ensures step { (store_tells : Bool) (g : List Entry) → StandsFor D.state store_tells farm.old g
+        → HandStands farm.old.plan g hand.old.items
+        → Answers D.state store_tells farm.new farm.old.plan (line.Finish ticket)
+        g hand.old.items hand.new.items result }
     ensures kept { Lasts D.state farm.old farm.new }
 {
     let job = match take_job(hand, ticket) {
@@ -120,9 +131,12 @@ pub(crate) fn cut<D: TileStore>(
     ticket: u64,
 ) -> Result<LineAnswer, NoMemory>
     requires turns { farm.old.counts.turns < 2 ^ 63 }
-    requires stands { (store_tells : Bool) × (g : List Entry) × StandsFor D.state store_tells farm.old g × HandStands farm.old.plan g hand.old.items }
-    ensures step { (store_tells : Bool) (g : List Entry) → StandsFor D.state store_tells farm.old g → HandStands farm.old.plan g hand.old.items
-        → Answers D.state store_tells farm.new farm.old.plan (line.Cut ticket) g hand.old.items hand.new.items result }
+    requires stands { (store_tells : Bool) × (g : List Entry)
+        × StandsFor D.state store_tells farm.old g × HandStands farm.old.plan g hand.old.items }
+    ensures step { (store_tells : Bool) (g : List Entry) → StandsFor D.state store_tells farm.old g
+        → HandStands farm.old.plan g hand.old.items
+        → Answers D.state store_tells farm.new farm.old.plan (line.Cut ticket)
+        g hand.old.items hand.new.items result }
     ensures kept { Lasts D.state farm.old farm.new }
 {
     let job = match take_job(hand, ticket) {

@@ -33,7 +33,8 @@ pub fn run_noting<D: TileStore, O: Sink>(
     out: &mut O,
 ) -> ScriptRun
     requires few { farm.old.counts.turns < most_turns }
-    requires stands { (store_tells : Bool) × (g : List Entry) × StandsFor D.state store_tells farm.old g }
+    requires stands { (store_tells : Bool) × (g : List Entry)
+        × StandsFor D.state store_tells farm.old g }
     ensures run { (store_tells : Bool) (g : List Entry) → StandsFor D.state store_tells farm.old g
         → Runs farm.old.plan script.now g (λ h. StandsFor D.state store_tells farm.new h) (O.state out.old) (O.state out.new) result.failed result.end }
     ensures kept { Lasts D.state farm.old farm.new }
@@ -75,7 +76,8 @@ pub fn run<D: TileStore, O: Sink>(
     out: &mut O,
 ) -> ScriptEnd
     requires few { farm.old.counts.turns < most_turns }
-    requires stands { (store_tells : Bool) × (g : List Entry) × StandsFor D.state store_tells farm.old g }
+    requires stands { (store_tells : Bool) × (g : List Entry)
+        × StandsFor D.state store_tells farm.old g }
     ensures run { (store_tells : Bool) (g : List Entry) → StandsFor D.state store_tells farm.old g
         → (failed : Bool) × Runs farm.old.plan script.now g (λ h. StandsFor D.state store_tells farm.new h) (O.state out.old) (O.state out.new) failed result }
     ensures kept { Lasts D.state farm.old farm.new }

@@ -305,7 +305,8 @@ impl<R: Net + rt::Files> SocketPorts<R> {
 
     fn hear(&mut self, place: usize, room: &mut Vec<u8>) -> Option<PortEvent>
         requires { place < vec_len self.old.links }
-        ensures event { IfSome result (λ e. IsPieceOf e room.new.items × EventCounts self.old.faults self.new.faults e) }
+        ensures event { IfSome result
+            (λ e. IsPieceOf e room.new.items × EventCounts self.old.faults self.new.faults e) }
         ensures none { IfNone result (self.new.faults ≡ self.old.faults) }
     {
         let conn = self.links[place].conn();
@@ -328,7 +329,8 @@ impl<R: Net + rt::Files> SocketPorts<R> {
     // What there is on the connection that stands first in the queue, if anything. Where there may be
     // more on it, it goes to the queue's end.
     fn hear_first(&mut self, room: &mut Vec<u8>) -> Option<PortEvent>
-        ensures event { IfSome result (λ e. IsPieceOf e room.new.items × EventCounts self.old.faults self.new.faults e) }
+        ensures event { IfSome result
+            (λ e. IsPieceOf e room.new.items × EventCounts self.old.faults self.new.faults e) }
         ensures none { IfNone result (self.new.faults ≡ self.old.faults) }
     {
         let conn = *self.queue.front()?;
@@ -351,7 +353,8 @@ impl<R: Net + rt::Files> SocketPorts<R> {
     // The next event of what is known, if there is one: first a bell, then a new connection and what
     // there is on one in turn.
     fn ready(&mut self, room: &mut Vec<u8>) -> Option<PortEvent>
-        ensures event { IfSome result (λ e. IsPieceOf e room.new.items × EventCounts self.old.faults self.new.faults e) }
+        ensures event { IfSome result
+            (λ e. IsPieceOf e room.new.items × EventCounts self.old.faults self.new.faults e) }
         ensures none { IfNone result (self.new.faults ≡ self.old.faults) }
     {
         if self.woken {

@@ -6,6 +6,7 @@ use Rattle.style_objects.specs.declared.fault.At.{At}
 use Rattle.style_objects.specs.declared.fault.StyleFault.{StyleFault}
 use Rattle.style_objects.specs.declared.fault.StyleFault.TheVariants as fault
 
--- the first step of each object: Shape where it is no object, Unsupported where it has another key than these
+-- the first step of each object: Shape where it is no object, Unsupported where it has another key
+-- than these
 unfoldable pub opened_as : List (List ℕ) → At → Data → Result (Unit {0}) StyleFault
 opened_as keys at d = opened (fault.Shape at) (fault.Unsupported at) keys d

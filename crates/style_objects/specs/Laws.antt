@@ -9,4 +9,5 @@ ReadsGrammar = SaysGrammar text_reading
 
 -- by each reading that says what the grammars say, the bytes of a style say the same
 abbrev pub OneStyle : Type 0
-OneStyle = (says : TextReading) → SaysGrammar says → (bytes : List ℕ) → style_by says bytes ≡ style_in bytes
+OneStyle = (says : TextReading) → SaysGrammar says → (bytes : List ℕ)
+    → style_by says bytes ≡ style_in bytes

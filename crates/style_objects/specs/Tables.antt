@@ -1,6 +1,7 @@
--- What a style text says, object by object and key by key in reading order: the value, or the first fault
--- with the object that it stands in, whose place is `at`. A line is a step; the first step that has a fault ends
--- the reading. What the texts of filters, colours and numbers are is told by a reading of them, `says`.
+-- What a style text says, object by object and key by key in reading order: the value, or the first
+-- fault with the object that it stands in, whose place is `at`. A line is a step; the first step
+-- that has a fault ends the reading. What the texts of filters, colours and numbers are is told by
+-- a reading of them, `says`.
 use Rattle.std.specs.Prelude.{ℕ, Bool, false, not, if◌then◌else◌, List, [], ◌∷◌, length, codes, Option, None, is_some, Result, Ok, Err}
 use Rattle.std.specs.Option.{ok_or}
 use Rattle.std.specs.Str.{bytes_eq}
@@ -36,10 +37,12 @@ polygon_of says at d = do
   opacity ← or_value 1000 (in_grammar says.thousandths at) (get (codes "fill-opacity") d)
   Ok (paint.Polygon fill opacity)
 
--- a line symbolizer: its stroke, which is black where it is absent, its width, opacity and cap; a join has no effect
+-- a line symbolizer: its stroke, which is black where it is absent, its width, opacity and cap; a
+-- join has no effect
 unfoldable pub line_symbolizer_of : TextReading → At → Data → Result Symbolizer StyleFault
 line_symbolizer_of says at d = do
-  u ← opened_as (codes "symbolizer" ∷ codes "stroke" ∷ codes "stroke-width" ∷ codes "stroke-opacity" ∷ codes "stroke-linecap" ∷ codes "stroke-linejoin" ∷ []) at d
+  u ← opened_as (codes "symbolizer" ∷ codes "stroke" ∷ codes "stroke-width" ∷ codes "stroke-opacity"
+      ∷ codes "stroke-linecap" ∷ codes "stroke-linejoin" ∷ []) at d
   stroke ← or_value (rgb 0 0 0) (in_grammar says.colour at) (get (codes "stroke") d)
   width ← or_value 100 (a_width says at) (get (codes "stroke-width") d)
   opacity ← or_value 1000 (in_grammar says.thousandths at) (get (codes "stroke-opacity") d)
@@ -47,10 +50,12 @@ line_symbolizer_of says at d = do
   v ← or_value tt (any_text at) (get (codes "stroke-linejoin") d)
   Ok (paint.Line stroke width opacity linecap)
 
--- a markers symbolizer: its fill, width and height, which have to be there, and its opacity, which may be absent
+-- a markers symbolizer: its fill, width and height, which have to be there, and its opacity, which
+-- may be absent
 unfoldable pub markers_of : TextReading → At → Data → Result Symbolizer StyleFault
 markers_of says at d = do
-  u ← opened_as (codes "symbolizer" ∷ codes "fill" ∷ codes "width" ∷ codes "height" ∷ codes "opacity" ∷ []) at d
+  u ← opened_as (codes "symbolizer" ∷ codes "fill" ∷ codes "width" ∷ codes "height"
+      ∷ codes "opacity" ∷ []) at d
   fill ← needed (fault.Shape at) (in_grammar says.colour at) (get (codes "fill") d)
   width ← needed (fault.Shape at) (a_width says at) (get (codes "width") d)
   height ← needed (fault.Shape at) (a_width says at) (get (codes "height") d)
@@ -70,7 +75,8 @@ symbolizer_named says name at d =
     if bytes_eq name (codes "PolygonSymbolizer") then polygon_of says at d else
     if bytes_eq name (codes "LineSymbolizer") then line_symbolizer_of says at d else
     if bytes_eq name (codes "MarkersSymbolizer") then markers_of says at d else
-    if bytes_eq name (codes "RasterSymbolizer") then raster_symbolizer_of says at d else Err (fault.Unsupported at)
+    if bytes_eq name (codes "RasterSymbolizer") then raster_symbolizer_of says at d
+    else Err (fault.Unsupported at)
 
 -- a symbolizer of any kind: Shape where it is no object, or has no text at the key `symbolizer`
 unfoldable pub symbolizer_of : TextReading → At → Data → Result Symbolizer StyleFault
@@ -88,14 +94,22 @@ filters_of says at d = do
 -- a rule: its own keys, then its symbolizers
 unfoldable pub rule_of : TextReading → At → Data → Result Rule StyleFault
 rule_of says at d = do
-  u ← opened_as (codes "Filter" ∷ codes "ElseFilter" ∷ codes "MinScaleDenominator" ∷ codes "MaxScaleDenominator" ∷ codes "symbolizers" ∷ []) at d
+  u ← opened_as (codes "Filter" ∷ codes "ElseFilter" ∷ codes "MinScaleDenominator"
+      ∷ codes "MaxScaleDenominator" ∷ codes "symbolizers" ∷ []) at d
   found ← within most_symbolizers (fault.Range at) (get (codes "symbolizers") d)
   filters ← filters_of says at d
   least ← or_value 0 (in_grammar says.hundredths at) (get (codes "MinScaleDenominator") d)
   greatest ← or_value None (a_bound says at) (get (codes "MaxScaleDenominator") d)
   items ← ok_or found (fault.Shape at)
-  symbolizers ← list_of (λ before e. symbolizer_of says (at_place part.Symbolizer at.first at.second (length before)) e) items
-  Ok (record { filter = filters.0; else_filter = filters.1; min_scale_denominator = least; max_scale_denominator = greatest; symbolizers = symbolizers })
+  symbolizers ← list_of (λ before e. symbolizer_of says
+      (at_place part.Symbolizer at.first at.second (length before)) e) items
+  Ok (record {
+    filter = filters.0;
+    else_filter = filters.1;
+    min_scale_denominator = least;
+    max_scale_denominator = greatest;
+    symbolizers = symbolizers;
+  })
 
 -- a style: its own keys, then Double where an earlier style has its name, then its rules
 unfoldable pub style_of : TextReading → At → List Style → Data → Result Style StyleFault
@@ -117,9 +131,11 @@ style_name_of styles at before d = do
   Ok name
 
 -- a layer; an earlier layer of its name is Double, after its keys
-unfoldable pub layer_of : TextReading → List Style → At → List LayerRef → Data → Result LayerRef StyleFault
+unfoldable pub layer_of : TextReading → List Style → At → List LayerRef → Data
+    → Result LayerRef StyleFault
 layer_of says styles at before d = do
-  u ← opened_as (codes "name" ∷ codes "source" ∷ codes "minimum-scale-denominator" ∷ codes "maximum-scale-denominator" ∷ codes "styles" ∷ []) at d
+  u ← opened_as (codes "name" ∷ codes "source" ∷ codes "minimum-scale-denominator"
+      ∷ codes "maximum-scale-denominator" ∷ codes "styles" ∷ []) at d
   name ← needed (fault.Shape at) (a_text_to most_name_bytes at) (get (codes "name") d)
   source ← needed (fault.Shape at) (a_text_to most_name_bytes at) (get (codes "source") d)
   least ← or_value 0 (in_grammar says.hundredths at) (get (codes "minimum-scale-denominator") d)
@@ -127,12 +143,19 @@ layer_of says styles at before d = do
   items ← needed (fault.Shape at) (list (fault.Shape at)) (get (codes "styles") d)
   names ← list_of (style_name_of styles at) items
   v ← check (not (layer_has name before)) (fault.Double at)
-  Ok (record { name = name; source = source; minimum_scale_denominator = least; maximum_scale_denominator = greatest; styles = names })
+  Ok (record {
+    name = name;
+    source = source;
+    minimum_scale_denominator = least;
+    maximum_scale_denominator = greatest;
+    styles = names;
+  })
 
 -- a raster; an earlier raster of its name is Double, after its keys
 unfoldable pub raster_of : At → List RasterRef → Data → Result RasterRef StyleFault
 raster_of at before d = do
-  u ← opened_as (codes "name" ∷ codes "file" ∷ codes "west" ∷ codes "north" ∷ codes "pixel" ∷ []) at d
+  u ← opened_as
+      (codes "name" ∷ codes "file" ∷ codes "west" ∷ codes "north" ∷ codes "pixel" ∷ []) at d
   name ← needed (fault.Shape at) (a_text_to most_name_bytes at) (get (codes "name") d)
   file ← needed (fault.Shape at) (a_text_to most_file_bytes at) (get (codes "file") d)
   west ← needed (fault.Shape at) (a_number 0 at) (get (codes "west") d)
@@ -141,28 +164,40 @@ raster_of at before d = do
   v ← check (not (raster_has name before)) (fault.Double at)
   Ok (record { name = name; file = file; west = west; north = north; pixel = pixel })
 
--- The map: its own keys, then its rasters, its styles and its layers. A background that is absent is white, this
--- project's own choice, for Mapnik's is transparent.
+-- The map: its own keys, then its rasters, its styles and its layers. A background that is absent
+-- is white, this project's own choice, for Mapnik's is transparent.
 unfoldable pub map_object : TextReading → At → Data → Result MapStyle StyleFault
 map_object says at d = do
-  u ← opened_as (codes "background-color" ∷ codes "styles" ∷ codes "layers" ∷ codes "rasters" ∷ []) at d
+  u ← opened_as
+      (codes "background-color" ∷ codes "styles" ∷ codes "layers" ∷ codes "rasters" ∷ []) at d
   found_styles ← within most_styles (fault.Range at) (get (codes "styles") d)
   found_layers ← within most_map_layers (fault.Range at) (get (codes "layers") d)
   found_rasters ← within most_rasters (fault.Range at) (get (codes "rasters") d)
-  background ← or_value (rgb 255 255 255) (in_grammar says.colour at) (get (codes "background-color") d)
+  background ← or_value (rgb 255 255 255) (in_grammar says.colour at)
+      (get (codes "background-color") d)
   style_items ← ok_or found_styles (fault.Shape at)
   layer_items ← ok_or found_layers (fault.Shape at)
   raster_items ← or_value no_items (list (fault.Shape at)) (get (codes "rasters") d)
-  rasters ← list_of (λ before e. raster_of (at_place part.Raster (length before) 0 0) before e) raster_items
-  styles ← list_of (λ before e. style_of says (at_place part.Style (length before) 0 0) before e) style_items
-  layers ← list_of (λ before e. layer_of says styles (at_place part.Layer (length before) 0 0) before e) layer_items
-  Ok (record { background_color = background; styles = styles; layers = layers; rasters = rasters; grids = [] })
+  rasters ← list_of (λ before e. raster_of (at_place part.Raster (length before) 0 0) before e)
+      raster_items
+  styles ← list_of
+      (λ before e. style_of says (at_place part.Style (length before) 0 0) before e) style_items
+  layers ← list_of (λ before e. layer_of says styles (at_place part.Layer (length before) 0 0)
+      before e) layer_items
+  Ok (record {
+    background_color = background;
+    styles = styles;
+    layers = layers;
+    rasters = rasters;
+    grids = [];
+  })
 
 -- what the bytes of a style say, where its texts are read so
 unfoldable pub style_by : TextReading → List ℕ → Result MapStyle StyleFault
-style_by says bytes = ok_or (json_of bytes) fault.NotJson >>= map_object says (at_place part.Map 0 0 0)
+style_by says bytes =
+    ok_or (json_of bytes) fault.NotJson >>= map_object says (at_place part.Map 0 0 0)
 
--- The same, where texts are read by the functions that go over them byte after byte. By the grammars there is
--- one reading, and this is it (`law_styles_by_grammar`).
+-- The same, where texts are read by the functions that go over them byte after byte. By the
+-- grammars there is one reading, and this is it (`law_styles_by_grammar`).
 abbrev pub style_in : List ℕ → Result MapStyle StyleFault
 style_in bytes = style_by text_reading bytes

@@ -1,4 +1,5 @@
--- Readings of the texts that stand in a style and in the files that it names, as their grammars have them.
+-- Readings of the texts that stand in a style and in the files that it names, as their grammars
+-- have them.
 use Rattle.std.specs.Prelude.{◌≡◌, ◌≤◌, ℕ, List, Option, Some, None, Result, Ok, Err}
 use Rattle.plain_shapes.specs.declared.colour.Colour.{Colour}
 use Rattle.plain_shapes.specs.Images.{Pixels}
@@ -13,8 +14,8 @@ use Rattle.plain_image.specs.declared.reading.PpmFault.TheVariants.{Bad, TooLarg
 use Rattle.plain_image.specs.PpmText.{ppm_of}
 use Rattle.plain_image.specs.PpmGrammar.{IsPpm, IsBadAt, IsTooLarge}
 
--- What each text is: as a filter, its tree or its first fault; as a colour; as a number of hundredths, or of
--- thousandths up to 1; and as a picture, its pixels or its first fault.
+-- What each text is: as a filter, its tree or its first fault; as a colour; as a number of
+-- hundredths, or of thousandths up to 1; and as a picture, its pixels or its first fault.
 pub record TextReading : Type 0 where
   pub filter : List ℕ → Result FilterTree FilterFault
   pub colour : List ℕ → Option Colour
@@ -30,8 +31,8 @@ IsNone {A} Is text = (a : A) → ¬ (Is text a)
 abbrev pub IsPortion : List ℕ → ℕ → Type 0
 IsPortion text n = IsDecimal 3 text n × (n ≤ 1000)
 
--- The reading says what the grammars say. Each text has one value by a grammar, or one first fault, or is none of
--- its texts, so there is one such reading and no other.
+-- The reading says what the grammars say. Each text has one value by a grammar, or one first fault,
+-- or is none of its texts, so there is one such reading and no other.
 pub record SaysGrammar (says : TextReading) : Type 0 where
   pub filter : (text : List ℕ) (t : FilterTree) → FilterOf text t → says.filter text ≡ Ok t
   pub fault : (text : List ℕ) (f : FilterFault) → FaultOf text f → says.filter text ≡ Err f
@@ -47,4 +48,10 @@ pub record SaysGrammar (says : TextReading) : Type 0 where
 
 -- the reading by the functions that go over a text byte after byte
 abbrev pub text_reading : TextReading
-text_reading = record { filter = filter_of; colour = colour_of; hundredths = hundredths_of; thousandths = thousandths_of; picture = ppm_of }
+text_reading = record {
+  filter = filter_of;
+  colour = colour_of;
+  hundredths = hundredths_of;
+  thousandths = thousandths_of;
+  picture = ppm_of;
+}

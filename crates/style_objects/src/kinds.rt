@@ -30,13 +30,15 @@ fn a_colour(value: &Value, at: At) -> Result<Colour, StyleFault>
 }
 
 pub fn colour_or(object: &Value, key: &str, absent: Colour, at: At) -> Result<Colour, StyleFault>
-    ensures { result ≡ or_value absent (spec.in_grammar text_reading.colour at) (get key.now (view object.now)) }
+    ensures { result
+        ≡ or_value absent (spec.in_grammar text_reading.colour at) (get key.now (view object.now)) }
 {
     object.get(key).map_or(Ok(absent), |v| a_colour(v, at))
 }
 
 pub fn colour_at(object: &Value, key: &str, at: At) -> Result<Colour, StyleFault>
-    ensures { result ≡ needed (fault.Shape at) (spec.in_grammar text_reading.colour at) (get key.now (view object.now)) }
+    ensures { result ≡ needed (fault.Shape at) (spec.in_grammar text_reading.colour at)
+        (get key.now (view object.now)) }
 {
     object
         .get(key)
@@ -51,7 +53,8 @@ fn a_scale(value: &Value, at: At) -> Result<u64, StyleFault>
 
 /// The least scale denominator of a rule or layer, 0 where it is absent.
 pub fn scale_or_zero(object: &Value, key: &str, at: At) -> Result<u64, StyleFault>
-    ensures { result ≡ or_value 0 (spec.in_grammar text_reading.hundredths at) (get key.now (view object.now)) }
+    ensures { result
+        ≡ or_value 0 (spec.in_grammar text_reading.hundredths at) (get key.now (view object.now)) }
 {
     object.get(key).map_or(Ok(0), |v| a_scale(v, at))
 }
@@ -65,7 +68,8 @@ fn a_bound(value: &Value, at: At) -> Result<Option<u64>, StyleFault>
 
 /// The greatest scale denominator of a rule or layer, none where it is absent.
 pub fn bound_or_none(object: &Value, key: &str, at: At) -> Result<Option<u64>, StyleFault>
-    ensures { result ≡ or_value None (spec.a_bound text_reading at) (get key.now (view object.now)) }
+    ensures { result
+        ≡ or_value None (spec.a_bound text_reading at) (get key.now (view object.now)) }
 {
     object.get(key).map_or(Ok(None), |v| a_bound(v, at))
 }
@@ -79,7 +83,8 @@ fn an_opacity(value: &Value, at: At) -> Result<u32, StyleFault>
 
 /// An opacity in thousandths, 1,000 where it is absent.
 pub fn opacity_or_full(object: &Value, key: &str, at: At) -> Result<u32, StyleFault>
-    ensures value { result ≡ or_value 1000 (spec.in_grammar text_reading.thousandths at) (get key.now (view object.now)) }
+    ensures value { result ≡ or_value 1000 (spec.in_grammar text_reading.thousandths at)
+        (get key.now (view object.now)) }
     ensures fits { IfOk result (λ n. IsTrue (is_opacity n)) }
 {
     object.get(key).map_or(Ok(1000), |v| an_opacity(v, at))
@@ -101,14 +106,16 @@ fn a_width(value: &Value, at: At) -> Result<u64, StyleFault>
 /// A width in hundredths of a pixel.
 pub fn width_or(object: &Value, key: &str, absent: u64, at: At) -> Result<u64, StyleFault>
     requires { IsTrue (is_width absent) }
-    ensures value { result ≡ or_value absent (spec.a_width text_reading at) (get key.now (view object.now)) }
+    ensures value { result
+        ≡ or_value absent (spec.a_width text_reading at) (get key.now (view object.now)) }
     ensures fits { IfOk result (λ n. IsTrue (is_width n)) }
 {
     object.get(key).map_or(Ok(absent), |v| a_width(v, at))
 }
 
 pub fn width_at(object: &Value, key: &str, at: At) -> Result<u64, StyleFault>
-    ensures value { result ≡ needed (fault.Shape at) (spec.a_width text_reading at) (get key.now (view object.now)) }
+    ensures value { result
+        ≡ needed (fault.Shape at) (spec.a_width text_reading at) (get key.now (view object.now)) }
     ensures fits { IfOk result (λ n. IsTrue (is_width n)) }
 {
     object
@@ -136,7 +143,8 @@ pub fn text_to<'a>(
     limit: usize,
     at: At,
 ) -> Result<&'a str, StyleFault>
-    ensures value { seen (λ s. s.now) result ≡ needed (fault.Shape at) (spec.a_text_to limit at) (get key.now (view object.entry.now)) }
+    ensures value { seen (λ s. s.now) result
+        ≡ needed (fault.Shape at) (spec.a_text_to limit at) (get key.now (view object.entry.now)) }
     ensures fits { IfOk result (λ s. IsTrue (is_text_to limit s.now)) }
 {
     match object.get(key) {
@@ -190,7 +198,8 @@ fn a_mode(value: &Value, at: At) -> Result<FilterMode, StyleFault>
 
 /// A filter mode, `all` where it is absent.
 pub fn mode_or_all(object: &Value, key: &str, at: At) -> Result<FilterMode, StyleFault>
-    ensures { result ≡ or_value mode.All (spec.in_grammar spec.mode_of at) (get key.now (view object.now)) }
+    ensures { result
+        ≡ or_value mode.All (spec.in_grammar spec.mode_of at) (get key.now (view object.now)) }
 {
     object
         .get(key)
@@ -216,7 +225,8 @@ fn a_cap(value: &Value, at: At) -> Result<LineCap, StyleFault>
 
 /// A line cap, `butt` where it is absent.
 pub fn cap_or_butt(object: &Value, key: &str, at: At) -> Result<LineCap, StyleFault>
-    ensures { result ≡ or_value cap.Butt (spec.in_grammar spec.cap_of at) (get key.now (view object.now)) }
+    ensures { result
+        ≡ or_value cap.Butt (spec.in_grammar spec.cap_of at) (get key.now (view object.now)) }
 {
     object.get(key).map_or(Ok(LineCap::Butt), |v| a_cap(v, at))
 }
@@ -239,7 +249,8 @@ fn a_number(value: &Value, low: u32, at: At) -> Result<u32, StyleFault>
 
 /// A whole number of a raster, up to `2^30`.
 pub fn number_at(object: &Value, key: &str, low: u32, at: At) -> Result<u32, StyleFault>
-    ensures value { result ≡ needed (fault.Shape at) (spec.a_number low at) (get key.now (view object.now)) }
+    ensures value { result
+        ≡ needed (fault.Shape at) (spec.a_number low at) (get key.now (view object.now)) }
     ensures low { IfOk result (λ n. low ≤ n) }
     ensures high { IfOk result (λ n. n ≤ 2 ^ 30) }
 {
@@ -251,7 +262,8 @@ pub fn number_at(object: &Value, key: &str, low: u32, at: At) -> Result<u32, Sty
 
 #[tactic(auto, unfolding(crate::specs::Kinds::a_filter))]
 fn a_filter(alloc: Global, value: &Value, at: At) -> Result<Option<Expr>, StyleFault>
-    ensures { Gives fault.NoMemory (option_map tree_of) (spec.a_filter text_reading at (view value.now)) result }
+    ensures { Gives fault.NoMemory (option_map tree_of)
+        (spec.a_filter text_reading at (view value.now)) result }
 {
     match parse(alloc, text(value, StyleFault::Shape(at))?) {
         Ok(expr) => Ok(Some(expr)),
@@ -267,7 +279,8 @@ pub fn filter_or_none(
     key: &str,
     at: At,
 ) -> Result<Option<Expr>, StyleFault>
-    ensures { Gives fault.NoMemory (option_map tree_of) (or_value None (spec.a_filter text_reading at) (get key.now (view object.now))) result }
+    ensures { Gives fault.NoMemory (option_map tree_of)
+        (or_value None (spec.a_filter text_reading at) (get key.now (view object.now))) result }
 {
     match object.get(key) {
         Some(value) => a_filter(alloc, value, at),
@@ -300,7 +313,8 @@ pub fn else_or_false(
     has_filter: bool,
     at: At,
 ) -> Result<bool, StyleFault>
-    ensures value { result ≡ or_value false (spec.an_else has_filter at) (get key.now (view object.now)) }
+    ensures value { result
+        ≡ or_value false (spec.an_else has_filter at) (get key.now (view object.now)) }
     ensures one { IfOk result (λ b. IsTrue (not (b && has_filter))) }
 {
     match object.get(key) {
@@ -318,7 +332,8 @@ pub fn list_or_none<'a>(
 ) -> Result<&'a [Value], StyleFault>
     requires { IfSome found (λ vs. length vs.now ≤ 2) }
     ensures short { IfOk result (λ vs. length vs.now ≤ 2) }
-    ensures value { seen (λ vs. items_view vs.now) result ≡ parts.list_or_none at (option_map (λ vs. items_view vs.now) found.entry) (option_map (λ v. view v.now) value.entry) }
+    ensures value { seen (λ vs. items_view vs.now) result ≡ parts.list_or_none at (option_map
+        (λ vs. items_view vs.now) found.entry) (option_map (λ v. view v.now) value.entry) }
 {
     match found {
         Some(items) => Ok(items),

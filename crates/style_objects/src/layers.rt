@@ -61,8 +61,10 @@ fn style_names(
     items: &[Value],
 ) -> Result<Vec<Text>, StyleFault>
     requires { length items.now < 2 ^ 64 }
-    ensures value { Gives fault.NoMemory (λ v. v.items) (list_of (spec.style_name_of styles.now at) (items_view items.now)) result }
-    ensures known { IfOk result (λ v. IsTrue (list_all (λ name. plain.style_has name styles.now) v.items)) }
+    ensures value { Gives fault.NoMemory (λ v. v.items)
+        (list_of (spec.style_name_of styles.now at) (items_view items.now)) result }
+    ensures known { IfOk result
+        (λ v. IsTrue (list_all (λ name. plain.style_has name styles.now) v.items)) }
 {
     let names = read_list(alloc, &NameItems { styles, at }, items)?;
     Ok(names)
@@ -82,7 +84,8 @@ fn layer(
     before: &[LayerRef],
     object: &Value,
 ) -> Result<LayerRef, StyleFault>
-    ensures value { Gives fault.NoMemory (λ x. x) (spec.layer_of text_reading styles.now (at_place part.Layer place 0 0) before.now (view object.now)) result }
+    ensures value { Gives fault.NoMemory (λ x. x) (spec.layer_of text_reading styles.now
+        (at_place part.Layer place 0 0) before.now (view object.now)) result }
     ensures apart { IfOk result (λ l. IsTrue (layer_apart styles.now before.now l)) }
 {
     let at = At::layer(place);
@@ -139,7 +142,9 @@ impl ReadItem for LayerItems<'_> {
 
 pub fn layers(alloc: Global, styles: &[Style], items: &[Value]) -> Result<Vec<LayerRef>, StyleFault>
     requires { length items.now ≤ most_map_layers }
-    ensures value { Gives fault.NoMemory (λ v. v.items) (list_of (λ before e. spec.layer_of text_reading styles.now (at_place part.Layer (length before) 0 0) before e) (items_view items.now)) result }
+    ensures value { Gives fault.NoMemory
+        (λ v. v.items) (list_of (λ before e. spec.layer_of text_reading styles.now
+        (at_place part.Layer (length before) 0 0) before e) (items_view items.now)) result }
     ensures apart { IfOk result (λ v. IsTrue (each_after (layer_apart styles.now) [] v.items)) }
     ensures count { IfOk result (λ v. length v.items ≤ most_map_layers) }
 {

@@ -39,7 +39,9 @@ fn map_lists(
     requires styles { length style_items.now ≤ most_styles }
     requires layers { length layer_items.now ≤ most_map_layers }
     requires rasters { length raster_items.now ≤ most_rasters }
-    ensures { Gives fault.NoMemory (λ x. x) (parts.map_lists text_reading background_color (items_view style_items.now) (items_view layer_items.now) (items_view raster_items.now)) result }
+    ensures { Gives fault.NoMemory
+        (λ x. x) (parts.map_lists text_reading background_color (items_view style_items.now)
+        (items_view layer_items.now) (items_view raster_items.now)) result }
 {
     let rasters = rasters(alloc, raster_items)?;
     let styles = match styles(alloc, style_items) {
@@ -68,7 +70,8 @@ fn map_lists(
 
 #[tactic(auto, unfolding(crate::specs::inner::Parts::map_by_parts))]
 fn map_by_parts(alloc: Global, object: &Value) -> Result<MapStyle, StyleFault>
-    ensures { Gives fault.NoMemory (λ x. x) (parts.map_by_parts text_reading (at_place part.Map 0 0 0) (view object.now)) result }
+    ensures { Gives fault.NoMemory (λ x. x)
+        (parts.map_by_parts text_reading (at_place part.Map 0 0 0) (view object.now)) result }
 {
     let at = At::map();
     open(object, Object::Map, at)?;
@@ -89,7 +92,8 @@ fn map_by_parts(alloc: Global, object: &Value) -> Result<MapStyle, StyleFault>
 }
 
 fn map_style(alloc: Global, object: &Value) -> Result<MapStyle, StyleFault>
-    ensures { Gives fault.NoMemory (λ x. x) (spec.map_object text_reading (at_place part.Map 0 0 0) (view object.now)) result }
+    ensures { Gives fault.NoMemory (λ x. x)
+        (spec.map_object text_reading (at_place part.Map 0 0 0) (view object.now)) result }
 {
     map_by_parts(alloc, object)
 }

@@ -34,7 +34,8 @@ fn raster(
     before: &[RasterRef],
     object: &Value,
 ) -> Result<RasterRef, StyleFault>
-    ensures value { Gives fault.NoMemory (λ x. x) (spec.raster_of (at_place part.Raster place 0 0) before.now (view object.now)) result }
+    ensures value { Gives fault.NoMemory (λ x. x)
+        (spec.raster_of (at_place part.Raster place 0 0) before.now (view object.now)) result }
     ensures apart { IfOk result (λ r. IsTrue (raster_apart before.now r)) }
 {
     let at = At::raster(place);
@@ -84,7 +85,8 @@ impl ReadItem for RasterItems {
 
 pub fn rasters(alloc: Global, items: &[Value]) -> Result<Vec<RasterRef>, StyleFault>
     requires { length items.now ≤ most_rasters }
-    ensures value { Gives fault.NoMemory (λ v. v.items) (list_of (λ before e. spec.raster_of (at_place part.Raster (length before) 0 0) before e) (items_view items.now)) result }
+    ensures value { Gives fault.NoMemory (λ v. v.items) (list_of (λ before e. spec.raster_of
+        (at_place part.Raster (length before) 0 0) before e) (items_view items.now)) result }
     ensures apart { IfOk result (λ v. IsTrue (each_after raster_apart [] v.items)) }
     ensures count { IfOk result (λ v. length v.items ≤ most_rasters) }
 {

@@ -26,7 +26,8 @@ use std::alloc::Global;
 
 #[tactic(auto, using(crate::proofs::Opening::some_tree), unfolding(crate::specs::Tables::filters_of))]
 fn filters(alloc: Global, object: &Value, at: At) -> Result<(Option<Expr>, bool), StyleFault>
-    ensures value { Gives fault.NoMemory (λ p. (option_map tree_of p.0, p.1)) (spec.filters_of text_reading at (view object.now)) result }
+    ensures value { Gives fault.NoMemory (λ p. (option_map tree_of p.0, p.1))
+        (spec.filters_of text_reading at (view object.now)) result }
     ensures one { IfOk result (λ p. IsTrue (not (p.1 && is_some (option_map tree_of p.0)))) }
 {
     let filter = filter_or_none(alloc, object, "Filter", at)?;
@@ -48,7 +49,9 @@ fn painting(
     object: &Value,
 ) -> Result<(u64, Option<u64>, Vec<Symbolizer>), StyleFault>
     requires { IfSome found (λ vs. length vs.now ≤ most_symbolizers) }
-    ensures value { Gives fault.NoMemory (λ p. (p.0, p.1, p.2.items)) (painting_of text_reading (at_place part.Rule style place 0) (option_map (λ vs. items_view vs.now) found.entry) (view object.now)) result }
+    ensures value { Gives fault.NoMemory
+        (λ p. (p.0, p.1, p.2.items)) (painting_of text_reading (at_place part.Rule style place 0)
+        (option_map (λ vs. items_view vs.now) found.entry) (view object.now)) result }
     ensures fits { IfOk result (λ p. IsTrue (list_all is_paint p.2.items)) }
     ensures count { IfOk result (λ p. length p.2.items ≤ most_symbolizers) }
 {
@@ -62,7 +65,8 @@ fn painting(
 
 #[tactic(auto, unfolding(crate::specs::inner::Parts::rule_by_parts))]
 fn rule_by_parts(alloc: Global, style: u32, place: u32, object: &Value) -> Result<Rule, StyleFault>
-    ensures { Gives fault.NoMemory (λ x. x) (rule_by_parts text_reading (at_place part.Rule style place 0) (view object.now)) result }
+    ensures { Gives fault.NoMemory (λ x. x)
+        (rule_by_parts text_reading (at_place part.Rule style place 0) (view object.now)) result }
 {
     let at = At::rule(style, place);
     open(object, Object::Rule, at)?;
@@ -89,7 +93,8 @@ fn rule_by_parts(alloc: Global, style: u32, place: u32, object: &Value) -> Resul
 }
 
 fn rule(alloc: Global, style: u32, place: u32, object: &Value) -> Result<Rule, StyleFault>
-    ensures { Gives fault.NoMemory (λ x. x) (spec.rule_of text_reading (at_place part.Rule style place 0) (view object.now)) result }
+    ensures { Gives fault.NoMemory (λ x. x)
+        (spec.rule_of text_reading (at_place part.Rule style place 0) (view object.now)) result }
 {
     rule_by_parts(alloc, style, place, object)
 }
@@ -118,7 +123,9 @@ impl ReadItem for RuleItems {
 
 pub fn rules(alloc: Global, style: u32, items: &[Value]) -> Result<Vec<Rule>, StyleFault>
     requires { length items.now ≤ most_rules }
-    ensures value { Gives fault.NoMemory (λ v. v.items) (list_of (λ before e. spec.rule_of text_reading (at_place part.Rule style (length before) 0) e) (items_view items.now)) result }
+    ensures value { Gives fault.NoMemory (λ v. v.items) (list_of
+        (λ before e. spec.rule_of text_reading (at_place part.Rule style (length before) 0) e)
+        (items_view items.now)) result }
     ensures count { IfOk result (λ v. length v.items ≤ most_rules) }
 {
     read_list(alloc, &RuleItems { style }, items)

@@ -33,7 +33,8 @@ pub fn style_has(name: &str, styles: &[Style]) -> bool
 
 #[tactic(auto, unfolding(crate::specs::Tables::style_of))]
 fn style(alloc: Global, place: u32, before: &[Style], object: &Value) -> Result<Style, StyleFault>
-    ensures value { Gives fault.NoMemory (λ x. x) (spec.style_of text_reading (at_place part.Style place 0 0) before.now (view object.now)) result }
+    ensures value { Gives fault.NoMemory (λ x. x) (spec.style_of text_reading
+        (at_place part.Style place 0 0) before.now (view object.now)) result }
     ensures apart { IfOk result (λ s. IsTrue (style_apart before.now s)) }
 {
     let at = At::style(place);
@@ -79,7 +80,9 @@ impl ReadItem for StyleItems {
 
 pub fn styles(alloc: Global, items: &[Value]) -> Result<Vec<Style>, StyleFault>
     requires { length items.now ≤ most_styles }
-    ensures value { Gives fault.NoMemory (λ v. v.items) (list_of (λ before e. spec.style_of text_reading (at_place part.Style (length before) 0 0) before e) (items_view items.now)) result }
+    ensures value { Gives fault.NoMemory (λ v. v.items) (list_of
+        (λ before e. spec.style_of text_reading (at_place part.Style (length before) 0 0) before e)
+        (items_view items.now)) result }
     ensures apart { IfOk result (λ v. IsTrue (each_after style_apart [] v.items)) }
     ensures count { IfOk result (λ v. length v.items ≤ most_styles) }
 {

@@ -107,7 +107,8 @@ fn named(name: &str, object: &Value, at: At) -> Result<Symbolizer, StyleFault>
 }
 
 fn name_of(object: &Value, at: At) -> Result<&str, StyleFault>
-    ensures { seen (λ s. s.now) result ≡ needed (fault.Shape at) (spec_text (fault.Shape at)) (get (codes "symbolizer") (view object.now)) }
+    ensures { seen (λ s. s.now) result ≡ needed (fault.Shape at) (spec_text (fault.Shape at))
+        (get (codes "symbolizer") (view object.now)) }
 {
     match object.get("symbolizer") {
         Some(value) => text(value, StyleFault::Shape(at)),
@@ -162,7 +163,9 @@ pub fn symbolizers(
     items: &[Value],
 ) -> Result<Vec<Symbolizer>, StyleFault>
     requires { length items.now ≤ most_symbolizers }
-    ensures value { Gives fault.NoMemory (λ v. v.items) (list_of (λ before e. spec.symbolizer_of text_reading (at_place part.Symbolizer style rule (length before)) e) (items_view items.now)) result }
+    ensures value { Gives fault.NoMemory
+        (λ v. v.items) (list_of (λ before e. spec.symbolizer_of text_reading
+        (at_place part.Symbolizer style rule (length before)) e) (items_view items.now)) result }
     ensures fits { IfOk result (λ v. IsTrue (list_all is_paint v.items)) }
     ensures count { IfOk result (λ v. length v.items ≤ most_symbolizers) }
 {

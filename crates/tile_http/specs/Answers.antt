@@ -1,5 +1,5 @@
--- The texts in which a tile front answers. Their lines end with a carriage return and a newline, and an empty line
--- stands before the body.
+-- The texts in which a tile front answers. Their lines end with a carriage return and a newline,
+-- and an empty line stands before the body.
 use Rattle.std.specs.Prelude.{ℕ, List, [], ◌++◌, length, codes}
 use Rattle.std.specs.Fmt.{decimal}
 use Rattle.farm_history.specs.declared.answers.Fetched.{Fetched}
@@ -12,7 +12,8 @@ use Rattle.tile_http.specs.declared.faults.Fault.TheVariants as fault
 -- the head of an answer: its status, its body's kind and length, and more lines, which may be none
 unfoldable pub response_head : List ℕ → List ℕ → ℕ → List ℕ → List ℕ
 response_head status kind len more =
-    codes "HTTP/1.1 " ++ (status ++ (codes "\r\nContent-Type: " ++ (kind ++ (codes "\r\nContent-Length: " ++ (decimal len
+    codes "HTTP/1.1 " ++ (status
+    ++ (codes "\r\nContent-Type: " ++ (kind ++ (codes "\r\nContent-Length: " ++ (decimal len
     ++ (codes "\r\n" ++ (more ++ codes "Connection: close\r\n\r\n")))))))
 
 abbrev pub answer : List ℕ → List ℕ → List ℕ → List ℕ → List ℕ
@@ -24,18 +25,22 @@ text_answer status body = answer status (codes "text/plain") [] body
 
 -- the lines that tell of a tile
 unfoldable pub tile_lines : List ℕ → ℕ → List ℕ
-tile_lines word version = codes "X-Tile: " ++ (word ++ (codes "\r\nX-Version: " ++ (decimal version ++ codes "\r\n")))
+tile_lines word version =
+    codes "X-Tile: " ++ (word ++ (codes "\r\nX-Version: " ++ (decimal version ++ codes "\r\n")))
 
 -- an answer with a picture, clean or dirty, of a data version
 abbrev pub picture_answer : List ℕ → ℕ → List ℕ → List ℕ
-picture_answer word version picture = answer (codes "200 OK") (codes "image/x-portable-pixmap") (tile_lines word version) picture
+picture_answer word version picture =
+    answer (codes "200 OK") (codes "image/x-portable-pixmap") (tile_lines word version) picture
 
 -- a refusal or a failure: the body is the reason as a line
 abbrev pub fault_answer : Fault → List ℕ
 fault_answer fault.BadRequest = text_answer (codes "400 Bad Request") (codes "Bad Request\n")
 fault_answer fault.NotFound = text_answer (codes "404 Not Found") (codes "Not Found\n")
-fault_answer fault.NotAllowed = text_answer (codes "405 Method Not Allowed") (codes "Method Not Allowed\n")
-fault_answer fault.Failed = text_answer (codes "500 Internal Server Error") (codes "Internal Server Error\n")
+fault_answer fault.NotAllowed =
+    text_answer (codes "405 Method Not Allowed") (codes "Method Not Allowed\n")
+fault_answer fault.Failed =
+    text_answer (codes "500 Internal Server Error") (codes "Internal Server Error\n")
 
 -- the answer to a tile, by what was fetched; want of memory has none
 abbrev pub tile_answer : Fetched → List ℕ
@@ -52,8 +57,10 @@ version_line word version = word ++ codes " " ++ decimal version ++ codes "\n"
 
 -- the answer to `/status`
 abbrev pub status_answer : Looked → List ℕ
-status_answer (looked.Clean version) = text_answer (codes "200 OK") (version_line (codes "clean") version)
-status_answer (looked.Dirty version) = text_answer (codes "200 OK") (version_line (codes "dirty") version)
+status_answer (looked.Clean version) =
+    text_answer (codes "200 OK") (version_line (codes "clean") version)
+status_answer (looked.Dirty version) =
+    text_answer (codes "200 OK") (version_line (codes "dirty") version)
 status_answer looked.Missing = text_answer (codes "200 OK") (codes "missing\n")
 status_answer looked.Unservable = fault_answer fault.NotFound
 

@@ -1,5 +1,6 @@
--- The heads of requests, as `httparse` reads them. Its answer is no function of the bytes: where these have more
--- than 32 headers, or end within a target, it may refuse at once or later. So what is said here is a relation.
+-- The heads of requests, as `httparse` reads them. Its answer is no function of the bytes: where
+-- these have more than 32 headers, or end within a target, it may refuse at once or later. So what
+-- is said here is a relation.
 use Rattle.std.specs.Prelude.{◌≡◌, ℕ, ◌<◌, ◌≤◌, ◌==◌, Bool, true, false, ◌&&◌, ◌||◌, List, [], ◌∷◌, length, take}
 use Rattle.farm_base.specs.Limits.{most_head_bytes, most_head_fields}
 use Rattle.httparse.specs.Grammar.{RequestHead, ReadsRequest, NeverHasRequest, MayBecomeRequest}
@@ -35,19 +36,21 @@ abbrev pub has_empty_line : List ℕ → Bool
 has_empty_line [] = false
 has_empty_line (b ∷ bytes) = (b == 10 && ends_line bytes) || has_empty_line bytes
 
--- The bytes are refused: whatever follows them, no head is made; or all are there that are read, and no head of at
--- most 32 headers; or there are more than 32 headers, and an empty line.
+-- The bytes are refused: whatever follows them, no head is made; or all are there that are read,
+-- and no head of at most 32 headers; or there are more than 32 headers, and an empty line.
 pub data IsBad (bytes : List ℕ) : Type 0 where
   IsNever : NeverHasRequest bytes → IsBad bytes
   IsLong : most_head_bytes ≤ length bytes → HasNoHead bytes → IsBad bytes
-  IsCrowded : RequestOverflows most_head_fields bytes → RequestExceeds most_head_fields bytes → has_empty_line bytes ≡ true → IsBad bytes
+  IsCrowded : RequestOverflows most_head_fields bytes → RequestExceeds most_head_fields bytes
+      → has_empty_line bytes ≡ true → IsBad bytes
 
--- More bytes are waited for: none came; or they are the beginning of a head; or there are more than 32 headers, and
--- no empty line.
+-- More bytes are waited for: none came; or they are the beginning of a head; or there are more than
+-- 32 headers, and no empty line.
 pub data IsOpen (bytes : List ℕ) : Type 0 where
   IsNothing : bytes ≡ [] → IsOpen bytes
   IsPart : length bytes < most_head_bytes → HasNoHead bytes → MayBecomeRequest bytes → IsOpen bytes
-  IsFull : length bytes < most_head_bytes → RequestOverflows most_head_fields bytes → RequestExceeds most_head_fields bytes → has_empty_line bytes ≡ false → IsOpen bytes
+  IsFull : length bytes < most_head_bytes → RequestOverflows most_head_fields bytes
+      → RequestExceeds most_head_fields bytes → has_empty_line bytes ≡ false → IsOpen bytes
 
 abbrev pub open_unless : Bool → Head
 open_unless true = Bad
@@ -57,4 +60,5 @@ open_unless false = Open
 abbrev pub ReadsHead : List ℕ → Head → Type 0
 ReadsHead bytes Open = IsOpen bytes
 ReadsHead bytes Bad = IsBad bytes
-ReadsHead bytes (Whole method target) = (h : RequestHead) × IsWhole bytes h × (method.now ≡ h.method) × (target.now ≡ h.target)
+ReadsHead bytes (Whole method target) =
+    (h : RequestHead) × IsWhole bytes h × (method.now ≡ h.method) × (target.now ≡ h.target)

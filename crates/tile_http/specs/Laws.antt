@@ -7,7 +7,8 @@ use Rattle.tile_http.specs.Heads.{bytes_read, IsWhole, HasNoHead, IsOpen, IsBad}
 
 -- What is refused, and what is waited for, begins with no head of at most 32 headers.
 abbrev pub NoHeadUnlessWhole : Type 0
-NoHeadUnlessWhole = (bytes : List ℕ) → (IsBad bytes → HasNoHead bytes) × (IsOpen bytes → HasNoHead bytes)
+NoHeadUnlessWhole =
+    (bytes : List ℕ) → (IsBad bytes → HasNoHead bytes) × (IsOpen bytes → HasNoHead bytes)
 
 -- Bytes begin with one head at most.
 abbrev pub OneHead : Type 0
@@ -15,7 +16,8 @@ OneHead = (bytes : List ℕ) (h k : RequestHead) → IsWhole bytes h → IsWhole
 
 -- A target asks for one thing of one tile at most.
 abbrev pub OneTarget : Type 0
-OneTarget = (target : List ℕ) (k l : Kind) (p q : Place) → Names target k p → Names target l q → (k ≡ l) × (p ≡ q)
+OneTarget = (target : List ℕ) (k l : Kind) (p q : Place) → Names target k p → Names target l q
+    → (k ≡ l) × (p ≡ q)
 
 -- What is refused stays so, whatever follows.
 abbrev pub BadStays : Type 0
@@ -23,4 +25,5 @@ BadStays = (given more : List ℕ) → IsBad (bytes_read given) → IsBad (bytes
 
 -- A whole head stays the same.
 abbrev pub WholeStays : Type 0
-WholeStays = (given more : List ℕ) (h : RequestHead) → IsWhole (bytes_read given) h → IsWhole (bytes_read (given ++ more)) h
+WholeStays = (given more : List ℕ) (h : RequestHead) → IsWhole (bytes_read given) h
+    → IsWhole (bytes_read (given ++ more)) h

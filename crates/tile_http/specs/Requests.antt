@@ -17,7 +17,8 @@ GetsNone bytes = (h : RequestHead) × IsWhole bytes h × (h.method ≡ codes "GE
 
 -- one that gets this of that tile
 abbrev pub GetsTile : List ℕ → Kind → Place → Type 0
-GetsTile bytes k p = (h : RequestHead) × IsWhole bytes h × (h.method ≡ codes "GET") × Names h.target k p
+GetsTile bytes k p =
+    (h : RequestHead) × IsWhole bytes h × (h.method ≡ codes "GET") × Names h.target k p
 
 -- what the bytes ask for
 abbrev pub Reads : List ℕ → Request → Type 0

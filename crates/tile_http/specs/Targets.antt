@@ -25,9 +25,11 @@ ending kind.Tile = codes "ppm"
 ending kind.Status = codes "ppm/status"
 ending kind.Dirty = codes "ppm/dirty"
 
--- the target: the name, the zoom, the column and the row, a slash before each, and a dot and its ending
+-- the target: the name, the zoom, the column and the row, a slash before each, and a dot and its
+-- ending
 abbrev pub target_of : Kind → Place → List ℕ
-target_of k p = 47 ∷ (p.name ++ 47 ∷ (decimal p.z ++ 47 ∷ (decimal p.x ++ 47 ∷ (decimal p.y ++ 46 ∷ ending k))))
+target_of k p =
+    47 ∷ (p.name ++ 47 ∷ (decimal p.z ++ 47 ∷ (decimal p.x ++ 47 ∷ (decimal p.y ++ 46 ∷ ending k))))
 
 -- the target asks this of that tile
 pub record Names (target : List ℕ) (k : Kind) (p : Place) : Type 0 where

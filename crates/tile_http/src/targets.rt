@@ -34,7 +34,8 @@ pub struct Target<'a> {
 /// exactly where it is no such target.
 pub fn read_target(text: &str) -> Option<Target<'_>>
     ensures some { IfSome result (λ t. Names text.entry.now t.kind (place_of t)) }
-    ensures every { (k : Kind) (p : Place) → Names text.entry.now k p → IsSomeAnd result (λ t. (t.kind ≡ k) × (place_of t ≡ p)) }
+    ensures every { (k : Kind) (p : Place) → Names text.entry.now k p
+        → IsSomeAnd result (λ t. (t.kind ≡ k) × (place_of t ≡ p)) }
 {
     let Some(rest) = text.strip_prefix('/') else {
         return None;
@@ -64,7 +65,8 @@ pub fn read_target(text: &str) -> Option<Target<'_>>
 }
 
 fn read_name(text: &str) -> Option<(&str, &str)>
-    ensures some { IfSome result (λ found. IsName found.0.now × (text.entry.now ≡ found.0.now ++ 47 ∷ found.1.now)) }
+    ensures some { IfSome result
+        (λ found. IsName found.0.now × (text.entry.now ≡ found.0.now ++ 47 ∷ found.1.now)) }
     ensures every { (name rest : List ℕ) → IsName name → text.entry.now ≡ name ++ 47 ∷ rest
         → IsSomeAnd result (λ found. (found.0.now ≡ name) × (found.1.now ≡ rest)) }
 {
@@ -79,7 +81,8 @@ fn read_name(text: &str) -> Option<(&str, &str)>
 
 fn read_number(text: &str, end: char) -> Option<(u32, &str)>
     requires { end < 48 }
-    ensures some { IfSome result (λ found. (found.0 < 2 ^ 32) × (text.entry.now ≡ decimal found.0 ++ end ∷ found.1.now)) }
+    ensures some { IfSome result
+        (λ found. (found.0 < 2 ^ 32) × (text.entry.now ≡ decimal found.0 ++ end ∷ found.1.now)) }
     ensures every { (n : ℕ) (rest : List ℕ) → n < 2 ^ 32 → text.entry.now ≡ decimal n ++ end ∷ rest
         → IsSomeAnd result (λ found. (found.0 ≡ n) × (found.1.now ≡ rest)) }
 {

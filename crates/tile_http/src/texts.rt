@@ -22,7 +22,8 @@ fn put_answer(
     body: &[u8],
     response: &mut Vec<u8>,
 ) -> Result<(), NoMemory>
-    ensures { OnOk result (response.new.items ≡ response.old.items ++ spec.answer status.now kind.now more.now body.now) }
+    ensures { OnOk result (response.new.items
+        ≡ response.old.items ++ spec.answer status.now kind.now more.now body.now) }
 {
     let head = head(alloc, status, kind, body.len(), more)?;
     put(response, head.as_str().as_bytes())?;
@@ -47,7 +48,8 @@ pub(crate) fn put_text(
     body: &str,
     response: &mut Vec<u8>,
 ) -> Result<(), NoMemory>
-    ensures { OnOk result (response.new.items ≡ response.old.items ++ spec.text_answer status.now body.now) }
+    ensures { OnOk result
+        (response.new.items ≡ response.old.items ++ spec.text_answer status.now body.now) }
 {
     put_answer(alloc, status, "text/plain", "", body.as_bytes(), response)
 }
@@ -60,7 +62,8 @@ pub(crate) fn put_picture(
     picture: &[u8],
     response: &mut Vec<u8>,
 ) -> Result<(), NoMemory>
-    ensures { OnOk result (response.new.items ≡ response.old.items ++ spec.picture_answer word.now version picture.now) }
+    ensures { OnOk result (response.new.items
+        ≡ response.old.items ++ spec.picture_answer word.now version picture.now) }
 {
     let lines = tile_lines(alloc, word, version)?;
     put_answer(

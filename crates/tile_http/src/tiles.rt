@@ -11,7 +11,8 @@ use std::alloc::Global;
 /// Puts the answer to a tile by what was fetched: 200 with the picture, 404 where it is missing or not
 /// servable, 500 where it could not be read, and nothing where there was no memory for it.
 pub fn put_tile(alloc: Global, fetched: &Fetched, response: &mut Vec<u8>) -> Result<(), NoMemory>
-    ensures { OnOk result (response.new.items ≡ response.old.items ++ spec.tile_answer fetched.now) }
+    ensures { OnOk result
+        (response.new.items ≡ response.old.items ++ spec.tile_answer fetched.now) }
 {
     match fetched {
         Fetched::Clean(version, picture) => {

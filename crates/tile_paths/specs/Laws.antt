@@ -1,5 +1,5 @@
--- What holds of paths: each is the path of one name and metatile, and none is the path of anything else
--- that a store holds.
+-- What holds of paths: each is the path of one name and metatile, and none is the path of anything
+-- else that a store holds.
 use Rattle.std.specs.Prelude.{◌≡◌, ◌≢◌, ℕ, List, ◌++◌, codes}
 use Rattle.plain_world.specs.declared.world.Meta.{Meta}
 use Rattle.plain_world.specs.World.{IsMeta}
@@ -12,7 +12,8 @@ OnePath = (name other : List ℕ) (m n : Meta) → IsName name → IsName other 
 
 -- Every path ends in `.meta`.
 abbrev pub EndsInMeta : Type 0
-EndsInMeta = (name : List ℕ) (m : Meta) → (front : List ℕ) × (path_of name m ≡ front ++ codes ".meta")
+EndsInMeta =
+    (name : List ℕ) (m : Meta) → (front : List ℕ) × (path_of name m ≡ front ++ codes ".meta")
 
 -- No metatile has the path of a saved farm.
 abbrev pub IsNotSaved : Type 0

@@ -14,7 +14,8 @@ use plain_world::Meta;
 
 /// The name and the metatile of which this is the path; `None` exactly where it is the path of none.
 pub fn read_path(text: &str) -> Option<(ArrayString<40>, Meta)>
-    ensures some { IfSome result (λ found. IsName found.0.bytes × IsMeta found.1 × (text.now ≡ path_of found.0.bytes found.1)) }
+    ensures some { IfSome result (λ found. IsName found.0.bytes × IsMeta found.1
+        × (text.now ≡ path_of found.0.bytes found.1)) }
 
     // What is a path is read, as the name and the metatile that it was made of.
     ensures every { (name : List ℕ) (m : Meta) → IsName name → IsMeta m → text.now ≡ path_of name m
@@ -82,7 +83,8 @@ struct Five {
 fn read_five(text: &str) -> Option<Five>
     ensures { (h4 h3 h2 h1 h0 : ℕ) → h4 < 256 → h3 < 256 → h2 < 256 → h1 < 256 → h0 < 256
         → text.now ≡ spec.five h4 h3 h2 h1 h0
-        → IsSomeAnd result (λ found. found ≡ record { h4 = h4; h3 = h3; h2 = h2; h1 = h1; h0 = h0 }) }
+        → IsSomeAnd result (λ found. found
+        ≡ record { h4 = h4; h3 = h3; h2 = h2; h1 = h1; h0 = h0 }) }
 {
     let Some((h4, rest)) = read_number(text, '/') else {
         return None;
@@ -104,7 +106,8 @@ fn read_five(text: &str) -> Option<Five>
 
 fn read_parts(text: &str) -> Option<Parts<'_>>
     ensures { (name : List ℕ) (m : Meta) → IsName name → IsMeta m → text.now ≡ path_of name m
-        → IsSomeAnd result (λ found. (found.name.now ≡ name) × (found.z ≡ m.z) × (found.x ≡ m.x) × (found.y ≡ m.y)) }
+        → IsSomeAnd result (λ found. (found.name.now ≡ name) × (found.z ≡ m.z) × (found.x ≡ m.x)
+        × (found.y ≡ m.y)) }
 {
     let Some((name, rest)) = read_name(text) else {
         return None;
@@ -124,7 +127,8 @@ fn read_parts(text: &str) -> Option<Parts<'_>>
 }
 
 fn high_bits(five: Five) -> u32
-    ensures { result ≡ (((five.h4 / 16 * 16 + five.h3 / 16) * 16 + five.h2 / 16) * 16 + five.h1 / 16) * 16 + five.h0 / 16 }
+    ensures { result ≡ (((five.h4 / 16 * 16 + five.h3 / 16) * 16 + five.h2 / 16) * 16
+        + five.h1 / 16) * 16 + five.h0 / 16 }
 {
     let upper = |h: u8| -> u32 { u32::from(h / 16) };
     let four = ((upper(five.h4) * 16 + upper(five.h3)) * 16 + upper(five.h2)) * 16 + upper(five.h1);
@@ -132,7 +136,8 @@ fn high_bits(five: Five) -> u32
 }
 
 fn low_bits(five: Five) -> u32
-    ensures { result ≡ (((five.h4 % 16 * 16 + five.h3 % 16) * 16 + five.h2 % 16) * 16 + five.h1 % 16) * 16 + five.h0 % 16 }
+    ensures { result ≡ (((five.h4 % 16 * 16 + five.h3 % 16) * 16 + five.h2 % 16) * 16
+        + five.h1 % 16) * 16 + five.h0 % 16 }
 {
     let lower = |h: u8| -> u32 { u32::from(h % 16) };
     let four = ((lower(five.h4) * 16 + lower(five.h3)) * 16 + lower(five.h2)) * 16 + lower(five.h1);

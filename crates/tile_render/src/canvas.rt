@@ -74,8 +74,11 @@ impl Canvas {
         requires region { IsRegion self.old.window covered.now.region }
         requires fits { Fits self.old.window covered.now.region covered.now.pixels }
         requires opacity { paint.opacity ≤ 1000 }
-        ensures painted { (member : Point → Bool) → Says self.old.window covered.now.region member covered.now.pixels
-            → self.new.image ≡ stepped self.old.window (over_member member paint.colour paint.opacity) self.old.image }
+        ensures painted { (member : Point → Bool)
+            → Says self.old.window covered.now.region member covered.now.pixels
+            → self.new.image
+            ≡ stepped self.old.window (over_member member paint.colour paint.opacity)
+            self.old.image }
         ensures window { self.new.window ≡ self.old.window }
     {
         let region = covered.region;
@@ -104,7 +107,8 @@ impl Canvas {
         requires region { IsRegion self.old.window region }
         requires holds { HoldsCovered self.old.window region feature.now symbolizer }
         ensures drawn { OnOk result (self.new.image ≡ stepped self.old.window
-            (over_member (λ c. covers self.old.window.pixel feature.now.geometry c symbolizer) colour 1000) self.old.image) }
+            (over_member (λ c. covers self.old.window.pixel feature.now.geometry c symbolizer)
+            colour 1000) self.old.image) }
         ensures window { self.new.window ≡ self.old.window }
     {
         let near = region_window(self.window, region);
@@ -126,7 +130,8 @@ impl Canvas {
         opacity: u32,
     ) -> Result<(), NoMemory>
         requires { opacity ≤ 1000 }
-        ensures blended { OnOk result (self.new.image ≡ stepped self.old.window (λ c d. raster_over grid.now c d (paint.Raster opacity)) self.old.image) }
+        ensures blended { OnOk result (self.new.image ≡ stepped self.old.window
+            (λ c d. raster_over grid.now c d (paint.Raster opacity)) self.old.image) }
         ensures window { self.new.window ≡ self.old.window }
     {
         blend_grid(alloc, self.window, grid, opacity, &mut self.image)

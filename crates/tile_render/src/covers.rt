@@ -77,7 +77,8 @@ fn spread(symbolizer: Symbolizer, pixel: u32) -> (u64, u64)
 
 fn fill(alloc: Global, w: Window, feature: &Feature) -> Result<Option<CoveredPixels>, NoMemory>
     requires { IsWindow w }
-    ensures { (colour : Colour) (opacity : ℕ) → IfOk result (λ found. Shows w feature.now.geometry (paint.Polygon colour opacity) found) }
+    ensures { (colour : Colour) (opacity : ℕ)
+        → IfOk result (λ found. Shows w feature.now.geometry (paint.Polygon colour opacity) found) }
 {
     match feature.geometry() {
         Geometry::Points(_) => Ok(None),
@@ -103,7 +104,8 @@ fn stroke<K: Surface>(
     requires cols { K.cols surface.old ≡ w.cols }
     requires rows { K.rows surface.old ≡ w.rows }
     ensures drawn { (colour : Colour) (opacity : ℕ) → OnOk result
-        (Marks K.shows (λ c. covers w.pixel feature.now.geometry c (paint.Line colour width opacity cap)) w surface.old surface.new) }
+        (Marks K.shows (λ c. covers w.pixel feature.now.geometry c
+        (paint.Line colour width opacity cap)) w surface.old surface.new) }
     ensures shows { Becomes K.shows (λ _ _. ⊤) surface.old surface.new }
 {
     let half = half_of(width, w.pixel);
@@ -122,7 +124,8 @@ fn mark<K: Surface>(w: Window, feature: &Feature, width: u64, height: u64, surfa
     requires cols { K.cols surface.old ≡ w.cols }
     requires rows { K.rows surface.old ≡ w.rows }
     ensures { (colour : Colour) (opacity : ℕ)
-        → Marks K.shows (λ c. covers w.pixel feature.now.geometry c (paint.Markers colour width height opacity)) w surface.old surface.new }
+        → Marks K.shows (λ c. covers w.pixel feature.now.geometry c
+        (paint.Markers colour width height opacity)) w surface.old surface.new }
 {
     match feature.geometry() {
         Geometry::Points(points) => {
@@ -160,7 +163,8 @@ pub(crate) fn cover_on<K: Surface>(
     requires kind { is_fill symbolizer ≡ false }
     requires cols { K.cols surface.old ≡ w.cols }
     requires rows { K.rows surface.old ≡ w.rows }
-    ensures drawn { OnOk result (Marks K.shows (λ c. covers w.pixel feature.now.geometry c symbolizer) w surface.old surface.new) }
+    ensures drawn { OnOk result (Marks K.shows
+        (λ c. covers w.pixel feature.now.geometry c symbolizer) w surface.old surface.new) }
     ensures shows { Becomes K.shows (λ _ _. ⊤) surface.old surface.new }
 {
     match symbolizer {
@@ -189,7 +193,8 @@ fn is_points(geometry: &Geometry) -> bool
 }
 
 fn suits(geometry: &Geometry, symbolizer: Symbolizer) -> bool
-    ensures { result ≡ false → (pixel : ℕ) (c : Point) → covers pixel geometry.now c symbolizer ≡ false }
+    ensures { result ≡ false → (pixel : ℕ) (c : Point)
+        → covers pixel geometry.now c symbolizer ≡ false }
 {
     match symbolizer {
         Symbolizer::Polygon { .. } => true,
@@ -267,7 +272,8 @@ pub(crate) fn region_of(w: Window, feature: &Feature, symbolizer: Symbolizer) ->
     requires paint { IsTrue (is_paint symbolizer) }
     ensures region { IfSome result (λ r. IsRegion w r) }
     ensures holds { MatchOption result
-        ((j i : ℕ) → i < w.cols → j < w.rows → covers w.pixel feature.now.geometry (centre w i j) symbolizer ≡ false)
+        ((j i : ℕ) → i < w.cols → j < w.rows
+        → covers w.pixel feature.now.geometry (centre w i j) symbolizer ≡ false)
         (λ r. HoldsCovered w r feature.now symbolizer) }
 {
     let (across, down) = spread(symbolizer, w.pixel);

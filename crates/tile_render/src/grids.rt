@@ -33,7 +33,8 @@ fn place_in(edge: u32, pixel: u32, count: u32, v: u32) -> u32
 // The grid's column of each column of the window, or the number of its columns where it has none there.
 fn grid_columns(alloc: Global, w: Window, grid: &Grid) -> Result<Vec<u32>, NoMemory>
     requires window { IsWindow w }
-    ensures { IfOk result (λ v. v.items ≡ map (λ i. column_at grid.now (centre w i 0)) (range_with_len 0 w.cols)) }
+    ensures { IfOk result
+        (λ v. v.items ≡ map (λ i. column_at grid.now (centre w i 0)) (range_with_len 0 w.cols)) }
 {
     let mut columns = Vec::new(alloc);
     for i in 0..w.cols {
@@ -59,7 +60,8 @@ fn run_end(places: &[u32], from: u32, count: u32) -> u32
 fn run_ends(alloc: Global, places: &[u32], count: u32) -> Result<Vec<u32>, NoMemory>
     requires { length places.now ≡ count }
     ensures long { IfOk result (λ v. length v.items ≡ length places.now) }
-    ensures runs { IfOk result (λ v. (i : ℕ) → i < length places.now → IsRun places.now i (get_or v.items i 0)) }
+    ensures runs { IfOk result
+        (λ v. (i : ℕ) → i < length places.now → IsRun places.now i (get_or v.items i 0)) }
 {
     let mut ends = Vec::with_capacity(alloc, places.len())?;
     let mut end = 0;
@@ -116,8 +118,10 @@ fn blend_row(
     requires rows { image.old.rows ≡ w.rows }
     requires opacity { opacity ≤ 1000 }
     requires row { j < w.rows }
-    ensures painted { (start : Pixels) → Changed (λ c d. raster_over grid.now c d (paint.Raster opacity)) w (j * w.cols) start image.old
-        → Changed (λ c d. raster_over grid.now c d (paint.Raster opacity)) w ((j + 1) * w.cols) start image.new }
+    ensures painted { (start : Pixels) → Changed
+        (λ c d. raster_over grid.now c d (paint.Raster opacity)) w (j * w.cols) start image.old
+        → Changed (λ c d. raster_over grid.now c d (paint.Raster opacity)) w ((j + 1) * w.cols)
+        start image.new }
     ensures cols { image.new.cols ≡ image.old.cols }
     ensures rows { image.new.rows ≡ image.old.rows }
 {
@@ -148,7 +152,8 @@ pub(crate) fn blend_grid(
     requires cols { image.old.cols ≡ w.cols }
     requires rows { image.old.rows ≡ w.rows }
     requires opacity { opacity ≤ 1000 }
-    ensures blended { OnOk result (image.new ≡ stepped w (λ c d. raster_over grid.now c d (paint.Raster opacity)) image.old) }
+    ensures blended { OnOk result
+        (image.new ≡ stepped w (λ c d. raster_over grid.now c d (paint.Raster opacity)) image.old) }
     ensures cols { image.new.cols ≡ image.old.cols }
     ensures rows { image.new.rows ≡ image.old.rows }
 {

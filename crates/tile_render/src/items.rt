@@ -54,7 +54,8 @@ fn find_grid<'a>(grids: &'a [Grid], name: &str) -> Option<&'a Grid>
 /// What a layer with this source draws: the bound grid of the name, else the features of the data's layer
 /// of the name, else nothing.
 pub(crate) fn items_of<'a>(style: &'a MapStyle, snapshot: &'a Snapshot, name: &'a str) -> Items<'a>
-    ensures items { items_in result ≡ items_of style.entry.now.grids snapshot.entry.now name.entry.now }
+    ensures items { items_in result
+        ≡ items_of style.entry.now.grids snapshot.entry.now name.entry.now }
     ensures source { FromData snapshot.entry.now result }
 {
     match find_grid(&style.grids, name) {

@@ -62,7 +62,8 @@ pub(crate) fn draw_map(
     canvas: &mut Canvas,
 ) -> Result<(), NoMemory>
     requires { 100 * denominator < 2 ^ 64 }
-    ensures drawn { OnOk result (canvas.new.image ≡ with_map canvas.old.window denominator style.now snapshot.now canvas.old.image) }
+    ensures drawn { OnOk result (canvas.new.image
+        ≡ with_map canvas.old.window denominator style.now snapshot.now canvas.old.image) }
     ensures window { canvas.new.window ≡ canvas.old.window }
 {
     let mut nearby = NearData::of(alloc, snapshot, around(canvas.window()));

@@ -57,7 +57,8 @@ fn cut_column(
     requires col { col < across }
     requires cols { image.now.cols ≡ size * across }
     requires rows { image.now.rows ≡ size * across }
-    ensures { OnOk result (tiles.new.items ≡ tiles.old.items ++ column_texts image.now size across col) }
+    ensures { OnOk result
+        (tiles.new.items ≡ tiles.old.items ++ column_texts image.now size across col) }
 {
     for row in 0..across {
         let tile = cut_tile(alloc, image, size, col, row)?;
@@ -99,7 +100,8 @@ pub fn draw_picture(
     requires before { before ≤ 2 ^ 16 }
     requires size { IsTileSize size }
     requires meta { IsMeta m }
-    ensures tiles { IfOk result (λ image. part_texts image size (tiles_across m) ≡ tiles_of style.now size m snapshot.now) }
+    ensures tiles { IfOk result
+        (λ image. part_texts image size (tiles_across m) ≡ tiles_of style.now size m snapshot.now) }
     ensures cols { IfOk result (λ image. image.cols ≡ size * tiles_across m) }
     ensures rows { IfOk result (λ image. image.rows ≡ size * tiles_across m) }
 {
@@ -122,7 +124,8 @@ pub fn draw_meta(
     requires size { IsTileSize size }
     requires meta { IsMeta m }
     ensures meta { IfOk result (λ drawn. drawn.meta ≡ m) }
-    ensures tiles { IfOk result (λ drawn. drawn.tiles.items ≡ tiles_of style.now size m snapshot.now) }
+    ensures tiles { IfOk result
+        (λ drawn. drawn.tiles.items ≡ tiles_of style.now size m snapshot.now) }
 {
     let image = draw_picture(alloc, 0, style, size, m, snapshot)?;
     let tiles = cut_tiles(alloc, &image, size, tiles_across(m))?;

@@ -42,7 +42,8 @@ impl<'a> Model for NearData<'a> {
 
     ghost view = { λ n. record { layers = n.snapshot.now; around = n.around } };
 
-    ghost invariant = { λ n. All (IsKept n.snapshot.now n.around) n.kept.items × (n.around.west ≤ n.around.east) × (n.around.north ≤ n.around.south) };
+    ghost invariant = { λ n. All (IsKept n.snapshot.now n.around) n.kept.items
+        × (n.around.west ≤ n.around.east) × (n.around.north ≤ n.around.south) };
 }
 
 fn listed<'a>(
@@ -50,7 +51,8 @@ fn listed<'a>(
     mut walk: NearFeatures<'a>,
     most: usize,
 ) -> Result<Option<Vec<&'a Feature>>, NoMemory>
-    ensures { IfOk result (λ found. IfSome found (λ features. map (λ f. f.now) features.items ≡ walk.entry)) }
+    ensures { IfOk result
+        (λ found. IfSome found (λ features. map (λ f. f.now) features.items ≡ walk.entry)) }
 {
     let mut features = Vec::new(alloc);
     while let Some(feature) = walk.next() {
@@ -72,7 +74,8 @@ fn near_layer<'a>(
     requires across { around.west ≤ around.east }
     requires down { around.north ≤ around.south }
     ensures name { IfOk result (λ k. k.name.now ≡ source.now.name.now) }
-    ensures near { IfOk result (λ k. k.has_all ≡ true → map (λ f. f.now) k.features.items ≡ all_near source.now.features around) }
+    ensures near { IfOk result (λ k. k.has_all ≡ true
+        → map (λ f. f.now) k.features.items ≡ all_near source.now.features around) }
 {
     let name = source.name;
     let walk = source
@@ -138,7 +141,8 @@ impl<'a> NearData<'a> {
     /// What is kept of the layer of this name, if it was drawn before.
     pub(crate) fn kept(&self, name: &str) -> Option<&NearLayer<'a>>
         ensures { IfSome result (λ k. k.now.has_all ≡ true
-            → map (λ f. f.now) k.now.features.items ≡ all_near (features_of self.now.layers name.now) self.now.around) }
+            → map (λ f. f.now) k.now.features.items
+            ≡ all_near (features_of self.now.layers name.now) self.now.around) }
     {
         find_layer(self.kept.as_slice(), name)
     }

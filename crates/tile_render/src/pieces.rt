@@ -97,7 +97,8 @@ fn joined(alloc: Global, pieces: &[Piece]) -> Result<Vec<Piece>, NoMemory>
     requires { IsNonDecreasingBy place pieces.now }
     ensures same { IfOk result (λ v. (j i : ℕ) → covered v.items j i ≡ covered pieces.now j i) }
     ensures apart { IfOk result (λ v. Apart v.items) }
-    ensures inside { IfOk result (λ v. (cols rows : ℕ) → All (IsPiece cols rows) pieces.now → All (IsPiece cols rows) v.items) }
+    ensures inside { IfOk result (λ v. (cols rows : ℕ) → All (IsPiece cols rows) pieces.now
+        → All (IsPiece cols rows) v.items) }
 {
     let mut kept = Vec::new(alloc);
     if pieces.is_empty() {
@@ -120,7 +121,8 @@ fn joined(alloc: Global, pieces: &[Piece]) -> Result<Vec<Piece>, NoMemory>
 fn tidied(alloc: Global, pieces: &mut [Piece]) -> Result<Vec<Piece>, NoMemory>
     ensures same { IfOk result (λ v. (j i : ℕ) → covered v.items j i ≡ covered pieces.old j i) }
     ensures apart { IfOk result (λ v. Apart v.items) }
-    ensures inside { IfOk result (λ v. (cols rows : ℕ) → All (IsPiece cols rows) pieces.old → All (IsPiece cols rows) v.items) }
+    ensures inside { IfOk result (λ v. (cols rows : ℕ) → All (IsPiece cols rows) pieces.old
+        → All (IsPiece cols rows) v.items) }
 {
     sort(pieces);
     joined(alloc, pieces)
@@ -128,8 +130,10 @@ fn tidied(alloc: Global, pieces: &mut [Piece]) -> Result<Vec<Piece>, NoMemory>
 
 impl Pieces {
     fn make_room(&mut self) -> Result<(), NoMemory>
-        ensures same { OnOk result ((j i : ℕ) → covered self.new.list.items j i ≡ covered self.old.list.items j i) }
-        ensures inside { OnOk result ((cols rows : ℕ) → All (IsPiece cols rows) self.old.list.items → All (IsPiece cols rows) self.new.list.items) }
+        ensures same { OnOk result
+            ((j i : ℕ) → covered self.new.list.items j i ≡ covered self.old.list.items j i) }
+        ensures inside { OnOk result ((cols rows : ℕ) → All (IsPiece cols rows) self.old.list.items
+            → All (IsPiece cols rows) self.new.list.items) }
         ensures cols { self.new.cols ≡ self.old.cols }
         ensures rows { self.new.rows ≡ self.old.rows }
         ensures short { self.new.is_short ≡ self.old.is_short }
@@ -144,8 +148,10 @@ impl Pieces {
     }
 
     fn add(&mut self, piece: Piece) -> Result<(), NoMemory>
-        ensures same { OnOk result ((j i : ℕ) → covered self.new.list.items j i ≡ (covered self.old.list.items j i || has j i piece)) }
-        ensures inside { OnOk result ((cols rows : ℕ) → All (IsPiece cols rows) self.old.list.items → IsPiece cols rows piece → All (IsPiece cols rows) self.new.list.items) }
+        ensures same { OnOk result ((j i : ℕ) → covered self.new.list.items j i
+            ≡ (covered self.old.list.items j i || has j i piece)) }
+        ensures inside { OnOk result ((cols rows : ℕ) → All (IsPiece cols rows) self.old.list.items
+            → IsPiece cols rows piece → All (IsPiece cols rows) self.new.list.items) }
         ensures cols { self.new.cols ≡ self.old.cols }
         ensures rows { self.new.rows ≡ self.old.rows }
         ensures short { self.new.is_short ≡ self.old.is_short }
@@ -182,9 +188,11 @@ impl Surface for Pieces {
 /// All that is covered, in order and joined; refused where memory was wanting.
 pub(crate) fn in_order(pieces: Pieces) -> Result<Vec<Piece>, NoMemory>
     ensures whole { IfOk result (λ v. pieces.is_short ≡ false) }
-    ensures same { IfOk result (λ v. (j i : ℕ) → covered v.items j i ≡ covered pieces.list.items j i) }
+    ensures same { IfOk result
+        (λ v. (j i : ℕ) → covered v.items j i ≡ covered pieces.list.items j i) }
     ensures apart { IfOk result (λ v. Apart v.items) }
-    ensures inside { IfOk result (λ v. (cols rows : ℕ) → All (IsPiece cols rows) pieces.list.items → All (IsPiece cols rows) v.items) }
+    ensures inside { IfOk result (λ v. (cols rows : ℕ) → All (IsPiece cols rows) pieces.list.items
+        → All (IsPiece cols rows) v.items) }
 {
     if pieces.is_short {
         return Err(NoMemory);

@@ -43,7 +43,8 @@ pub(crate) fn region_near(w: Window, b: Bounds, across: u64, down: u64) -> Optio
     ensures region { IfSome result (λ r. IsRegion w r) }
     ensures holds { MatchOption result
         ((j i : ℕ) → i < w.cols → j < w.rows → Beside b across down (centre w i j) → ⊥)
-        (λ r. (j i : ℕ) → i < w.cols → j < w.rows → Beside b across down (centre w i j) → InRegion r i j) }
+        (λ r. (j i : ℕ) → i < w.cols → j < w.rows → Beside b across down (centre w i j)
+        → InRegion r i j) }
 {
     let west = u64::from(b.west).saturating_sub(across);
     let east = u64::from(b.east) + across;

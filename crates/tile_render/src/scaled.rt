@@ -30,7 +30,8 @@ impl<'a> Model for ScaledStyle<'a> {
 
     ghost view = { λ s. record { style = s.style.now; denominator = s.denominator } };
 
-    ghost invariant = { λ s. map (λ r. r.now) s.rules.items ≡ filter (at_scale s.denominator) s.style.now.rules };
+    ghost invariant = { λ s. map (λ r. r.now) s.rules.items
+        ≡ filter (at_scale s.denominator) s.style.now.rules };
 }
 
 fn at_scale(rule: &Rule, denominator: u64) -> bool
@@ -50,7 +51,8 @@ fn active_rules<'a>(
     denominator: u64,
 ) -> Result<Vec<&'a Rule>, NoMemory>
     requires { 100 * denominator < 2 ^ 64 }
-    ensures { IfOk result (λ v. map (λ r. r.now) v.items ≡ filter (at_scale denominator) rules.entry.now) }
+    ensures { IfOk result
+        (λ v. map (λ r. r.now) v.items ≡ filter (at_scale denominator) rules.entry.now) }
 {
     let mut chosen = Vec::new(alloc);
     for rule in rules {
@@ -69,7 +71,8 @@ impl<'a> ScaledStyle<'a> {
         denominator: u64,
     ) -> Result<ScaledStyle<'a>, NoMemory>
         requires { 100 * denominator < 2 ^ 64 }
-        ensures { IfOk result (λ s. s ≡ record { style = style.entry.now; denominator = denominator }) }
+        ensures { IfOk result
+            (λ s. s ≡ record { style = style.entry.now; denominator = denominator }) }
     {
         let rules = active_rules(alloc, style.rules.as_slice(), denominator)?;
         Ok(ScaledStyle {
@@ -81,7 +84,8 @@ impl<'a> ScaledStyle<'a> {
 
     /// Its rules that are at scale, in order.
     pub(crate) fn rules(&self) -> &[&'a Rule]
-        ensures { map (λ r. r.now) result.now ≡ filter (at_scale self.now.denominator) self.now.style.rules }
+        ensures { map (λ r. r.now) result.now
+            ≡ filter (at_scale self.now.denominator) self.now.style.rules }
     {
         self.rules.as_slice()
     }

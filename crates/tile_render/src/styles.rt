@@ -28,7 +28,8 @@ fn draw_rule(
     rule: &Rule,
     canvas: &mut Canvas,
 ) -> Result<(), NoMemory>
-    ensures drawn { OnOk result (canvas.new.image ≡ with_rule canvas.old.window (item_of item.entry) canvas.old.image rule.now) }
+    ensures drawn { OnOk result (canvas.new.image
+        ≡ with_rule canvas.old.window (item_of item.entry) canvas.old.image rule.now) }
     ensures window { canvas.new.window ≡ canvas.old.window }
 {
     for symbolizer in &rule.symbolizers {
@@ -45,7 +46,8 @@ fn draw_rules(
     canvas: &mut Canvas,
 ) -> Result<(), NoMemory>
     ensures drawn { OnOk result (canvas.new.image
-        ≡ fold (with_chosen canvas.old.window (item_of item.entry) (is_chosen choice (item_attrs (item_of item.entry)))) canvas.old.image (map (λ r. r.now) rules.now)) }
+        ≡ fold (with_chosen canvas.old.window (item_of item.entry) (is_chosen choice
+        (item_attrs (item_of item.entry)))) canvas.old.image (map (λ r. r.now) rules.now)) }
     ensures window { canvas.new.window ≡ canvas.old.window }
 {
     let attrs = item.attrs();
@@ -66,7 +68,9 @@ fn draw_item(
     item: Item<'_>,
     canvas: &mut Canvas,
 ) -> Result<(), NoMemory>
-    ensures drawn { OnOk result (canvas.new.image ≡ with_item canvas.old.window scaled.now.denominator scaled.now.style canvas.old.image (item_of item.entry)) }
+    ensures drawn { OnOk result (canvas.new.image
+        ≡ with_item canvas.old.window scaled.now.denominator scaled.now.style canvas.old.image
+        (item_of item.entry)) }
     ensures window { canvas.new.window ≡ canvas.old.window }
 {
     let rules = scaled.rules();
@@ -94,7 +98,8 @@ fn draw_features(
     canvas: &mut Canvas,
 ) -> Result<(), NoMemory>
     ensures drawn { OnOk result (canvas.new.image
-        ≡ fold (with_item canvas.old.window scaled.now.denominator scaled.now.style) canvas.old.image (map feature features.now)) }
+        ≡ fold (with_item canvas.old.window scaled.now.denominator scaled.now.style)
+        canvas.old.image (map feature features.now)) }
     ensures window { canvas.new.window ≡ canvas.old.window }
 {
     scaled.know();
@@ -113,7 +118,8 @@ fn draw_listed(
     canvas: &mut Canvas,
 ) -> Result<(), NoMemory>
     ensures drawn { OnOk result (canvas.new.image
-        ≡ fold (with_item canvas.old.window scaled.now.denominator scaled.now.style) canvas.old.image (map feature (map (λ f. f.now) features.now))) }
+        ≡ fold (with_item canvas.old.window scaled.now.denominator scaled.now.style)
+        canvas.old.image (map feature (map (λ f. f.now) features.now))) }
     ensures window { canvas.new.window ≡ canvas.old.window }
 {
     for feature in features {
@@ -133,7 +139,8 @@ fn draw_source<'a>(
     requires source { IsSource nearby.old.layers source.now }
     requires near { nearby.old.around ≡ around canvas.old.window }
     ensures drawn { OnOk result (canvas.new.image
-        ≡ fold (with_item canvas.old.window scaled.now.denominator scaled.now.style) canvas.old.image (map feature source.now.features)) }
+        ≡ fold (with_item canvas.old.window scaled.now.denominator scaled.now.style)
+        canvas.old.image (map feature source.now.features)) }
     ensures window { canvas.new.window ≡ canvas.old.window }
     ensures nearby { nearby.new ≡ nearby.old }
 {
@@ -162,7 +169,8 @@ pub(crate) fn draw_style<'a>(
     requires denominator { 100 * denominator < 2 ^ 64 }
     requires source { FromData nearby.old.layers items.now }
     requires near { nearby.old.around ≡ around canvas.old.window }
-    ensures drawn { OnOk result (canvas.new.image ≡ with_style canvas.old.window denominator (items_in items.now) canvas.old.image style.now) }
+    ensures drawn { OnOk result (canvas.new.image ≡ with_style canvas.old.window denominator
+        (items_in items.now) canvas.old.image style.now) }
     ensures window { canvas.new.window ≡ canvas.old.window }
     ensures nearby { nearby.new ≡ nearby.old }
 {

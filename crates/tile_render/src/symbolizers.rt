@@ -31,7 +31,8 @@ pub(crate) struct Paint {
 fn paint_of(symbolizer: Symbolizer) -> Paint
     requires { IsTrue (is_paint symbolizer) }
     ensures opacity { result.opacity ≤ 1000 }
-    ensures value { (d : Colour) → painted_over d symbolizer ≡ blend result.colour result.opacity d }
+    ensures value { (d : Colour)
+        → painted_over d symbolizer ≡ blend result.colour result.opacity d }
 {
     match symbolizer {
         Symbolizer::Polygon { fill, fill_opacity } => Paint {
@@ -65,7 +66,8 @@ fn draw_on_grid(
     canvas: &mut Canvas,
 ) -> Result<(), NoMemory>
     requires paint { IsTrue (is_paint symbolizer) }
-    ensures drawn { OnOk result (canvas.new.image ≡ with_symbolizer canvas.old.window (raster grid.now) canvas.old.image symbolizer) }
+    ensures drawn { OnOk result (canvas.new.image
+        ≡ with_symbolizer canvas.old.window (raster grid.now) canvas.old.image symbolizer) }
     ensures window { canvas.new.window ≡ canvas.old.window }
 {
     match symbolizer {
@@ -96,7 +98,8 @@ fn draw_region(
     requires paint { IsTrue (is_paint symbolizer) }
     requires region { IsRegion canvas.old.window region }
     requires holds { HoldsCovered canvas.old.window region feature.now symbolizer }
-    ensures drawn { OnOk result (canvas.new.image ≡ with_symbolizer canvas.old.window (drawing.feature feature.now) canvas.old.image symbolizer) }
+    ensures drawn { OnOk result (canvas.new.image ≡ with_symbolizer canvas.old.window
+        (drawing.feature feature.now) canvas.old.image symbolizer) }
     ensures window { canvas.new.window ≡ canvas.old.window }
 {
     let paint = paint_of(symbolizer);
@@ -119,7 +122,8 @@ fn draw_on_feature(
     canvas: &mut Canvas,
 ) -> Result<(), NoMemory>
     requires paint { IsTrue (is_paint symbolizer) }
-    ensures drawn { OnOk result (canvas.new.image ≡ with_symbolizer canvas.old.window (drawing.feature feature.now) canvas.old.image symbolizer) }
+    ensures drawn { OnOk result (canvas.new.image ≡ with_symbolizer canvas.old.window
+        (drawing.feature feature.now) canvas.old.image symbolizer) }
     ensures window { canvas.new.window ≡ canvas.old.window }
 {
     match region_of(canvas.window(), feature, symbolizer) {
@@ -136,7 +140,8 @@ pub(crate) fn draw_symbolizer(
     canvas: &mut Canvas,
 ) -> Result<(), NoMemory>
     requires paint { IsTrue (is_paint symbolizer) }
-    ensures drawn { OnOk result (canvas.new.image ≡ with_symbolizer canvas.old.window (item_of item.entry) canvas.old.image symbolizer) }
+    ensures drawn { OnOk result (canvas.new.image
+        ≡ with_symbolizer canvas.old.window (item_of item.entry) canvas.old.image symbolizer) }
     ensures window { canvas.new.window ≡ canvas.old.window }
 {
     match item {

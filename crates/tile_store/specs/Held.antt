@@ -9,8 +9,8 @@ use Rattle.tile_store.specs.declared.stores.StoreFault.{StoreFault}
 use Rattle.tile_store.specs.declared.stores.StoreFault.TheVariants.{Failed, NoMemory}
 use Rattle.tile_store.specs.Stores.{StoreTold, failed_put, failed_get}
 
--- contents by their paths, the puts and the gets that are to fail by their numbers, how many puts and
--- how many gets were answered, and the calls that failed
+-- contents by their paths, the puts and the gets that are to fail by their numbers, how many puts
+-- and how many gets were answered, and the calls that failed
 pub record StoreHeld : Type 0 where
   pub held : List (List ℕ × List ℕ)
   pub puts : List ℕ
@@ -30,7 +30,8 @@ store_state store = record { told = Some (told_of store); faults = length store.
 -- the contents with these bytes at a path, in place of those that it held
 abbrev pub with_content : List (List ℕ × List ℕ) → List ℕ → List ℕ → List (List ℕ × List ℕ)
 with_content [] path bytes = (path, bytes) ∷ []
-with_content (pair ∷ pairs) path bytes = if bytes_eq pair.0 path then (pair.0, bytes) ∷ pairs else pair ∷ with_content pairs path bytes
+with_content (pair ∷ pairs) path bytes = if bytes_eq pair.0 path then (pair.0, bytes) ∷ pairs
+    else pair ∷ with_content pairs path bytes
 
 -- is the next put to fail?
 abbrev pub put_fails : StoreHeld → Bool
@@ -45,18 +46,30 @@ abbrev pub half : List ℕ → List ℕ
 half bytes = take (length bytes / 2) bytes
 
 -- A put in memory, exactly: it fails where its number says so, and then half of the bytes stand.
-abbrev pub PutsHeld : StoreHeld → StoreHeld → List ℕ → List ℕ → Result (Unit {0}) StoreFault → Type 0
+abbrev pub PutsHeld : StoreHeld → StoreHeld → List ℕ → List ℕ
+    → Result (Unit {0}) StoreFault → Type 0
 PutsHeld old new path bytes (Ok done) = (put_fails old ≡ false)
-    × (new ≡ record old { held = with_content old.held path bytes; put_calls = next_count old.put_calls })
+    × (new ≡ record old {
+      held = with_content old.held path bytes;
+      put_calls = next_count old.put_calls;
+    })
 PutsHeld old new path bytes (Err Failed) = (put_fails old ≡ true)
-    × (new ≡ record old { held = with_content old.held path (half bytes); put_calls = next_count old.put_calls; failed = old.failed ++ failed_put path ∷ [] })
+    × (new ≡ record old {
+      held = with_content old.held path (half bytes);
+      put_calls = next_count old.put_calls;
+      failed = old.failed ++ failed_put path ∷ [];
+    })
 PutsHeld old new path bytes (Err NoMemory) = new ≡ old
 
 -- A get in memory by a view of the bytes, exactly: it fails where its number says so.
-abbrev pub GetsHeld : (List ℕ → List ℕ) → StoreHeld → StoreHeld → List ℕ → Result (Option (Vec ℕ Global)) StoreFault → Type 0
+abbrev pub GetsHeld : (List ℕ → List ℕ) → StoreHeld → StoreHeld → List ℕ
+    → Result (Option (Vec ℕ Global)) StoreFault → Type 0
 GetsHeld view old new path (Ok found) = (get_fails old ≡ false)
     × (option_map (λ v. v.items) found ≡ option_map view (content_of old.held path))
     × (new ≡ record old { get_calls = next_count old.get_calls })
 GetsHeld view old new path (Err Failed) = (get_fails old ≡ true)
-    × (new ≡ record old { get_calls = next_count old.get_calls; failed = old.failed ++ failed_get path ∷ [] })
+    × (new ≡ record old {
+      get_calls = next_count old.get_calls;
+      failed = old.failed ++ failed_get path ∷ [];
+    })
 GetsHeld view old new path (Err NoMemory) = new ≡ old

@@ -6,7 +6,8 @@ use Rattle.farm_base.specs.Outside.{Outside, FilesTold, Counted}
 use Rattle.tile_store.specs.declared.stores.StoreFault.{StoreFault}
 use Rattle.tile_store.specs.declared.stores.StoreFault.TheVariants.{Failed, NoMemory}
 
--- what a store that tells tells, as files do: the bytes that each path holds, if any, and the calls that failed so far
+-- what a store that tells tells, as files do: the bytes that each path holds, if any, and the calls
+-- that failed so far
 abbrev pub StoreTold : Type 0
 StoreTold = FilesTold
 
@@ -33,15 +34,21 @@ pub record PutFailed (old new : StoreTold) (path : List ℕ) : Type 0 where
   pub others : KeepsOthers old new path
   pub failed : new.failed ≡ old.failed ++ failed_put path ∷ []
 
--- whether the store tells stays, and where it does, this holds of what it told and what it tells now
-abbrev pub IfTold : Outside StoreTold → Outside StoreTold → (StoreTold → StoreTold → Type 0) → Type 0
-IfTold old new holds = MatchOption old.told (new.told ≡ None) (λ before. (now : StoreTold) × (new.told ≡ Some now) × holds before now)
+-- whether the store tells stays, and where it does, this holds of what it told and what it tells
+-- now
+abbrev pub IfTold : Outside StoreTold → Outside StoreTold
+    → (StoreTold → StoreTold → Type 0) → Type 0
+IfTold old new holds = MatchOption old.told (new.told ≡ None)
+    (λ before. (now : StoreTold) × (new.told ≡ Some now) × holds before now)
 
--- A put of bytes at a path. After Ok the path holds the bytes and the count is as before; after Failed
--- what the path holds is unknown, and the count has risen; after NoMemory all is as before.
-abbrev pub StorePuts : Outside StoreTold → Outside StoreTold → List ℕ → List ℕ → Result (Unit {0}) StoreFault → Type 0
-StorePuts old new path bytes (Ok done) = IfTold old new (λ before now. Stored before now path bytes) × (new.faults ≡ old.faults)
-StorePuts old new path bytes (Err Failed) = IfTold old new (λ before now. PutFailed before now path) × Counted old.faults new.faults
+-- A put of bytes at a path. After Ok the path holds the bytes and the count is as before; after
+-- Failed what the path holds is unknown, and the count has risen; after NoMemory all is as before.
+abbrev pub StorePuts : Outside StoreTold → Outside StoreTold → List ℕ → List ℕ
+    → Result (Unit {0}) StoreFault → Type 0
+StorePuts old new path bytes (Ok done) =
+    IfTold old new (λ before now. Stored before now path bytes) × (new.faults ≡ old.faults)
+StorePuts old new path bytes (Err Failed) =
+    IfTold old new (λ before now. PutFailed before now path) × Counted old.faults new.faults
 StorePuts old new path bytes (Err NoMemory) = new ≡ old
 
 -- the same content after one more get of this path that failed
@@ -49,13 +56,16 @@ abbrev pub with_failed_get : List ℕ → StoreTold → StoreTold
 with_failed_get path store = record store { failed = store.failed ++ failed_get path ∷ [] }
 
 -- A get of a path by a view of its bytes. After Ok all is as before, and where the store tells, the
--- answer is the view of the bytes that the path holds, and none exactly where it holds nothing. After
--- Failed the count has risen, the failed get is noted where the store tells, and nothing else has
--- changed. After NoMemory all is as before.
-abbrev pub Gets : (List ℕ → List ℕ) → Outside StoreTold → Outside StoreTold → List ℕ → Result (Option (Vec ℕ Global)) StoreFault → Type 0
+-- answer is the view of the bytes that the path holds, and none exactly where it holds nothing.
+-- After Failed the count has risen, the failed get is noted where the store tells, and nothing else
+-- has changed. After NoMemory all is as before.
+abbrev pub Gets : (List ℕ → List ℕ) → Outside StoreTold → Outside StoreTold → List ℕ
+    → Result (Option (Vec ℕ Global)) StoreFault → Type 0
 Gets view old new path (Ok found) =
-    (new ≡ old) × IfSome old.told (λ t. option_map (λ v. v.items) found ≡ option_map view (t.content path))
-Gets view old new path (Err Failed) = (new.told ≡ option_map (with_failed_get path) old.told) × Counted old.faults new.faults
+    (new ≡ old)
+    × IfSome old.told (λ t. option_map (λ v. v.items) found ≡ option_map view (t.content path))
+Gets view old new path (Err Failed) =
+    (new.told ≡ option_map (with_failed_get path) old.told) × Counted old.faults new.faults
 Gets view old new path (Err NoMemory) = new ≡ old
 
 -- the whole of the bytes

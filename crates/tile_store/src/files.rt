@@ -94,7 +94,8 @@ impl<'a, R: rt::Files<File = File>> FileStore<'a, R> {
     // The file of this name: the one whose beginning was read last, where a part behind that is to be read of it.
     fn opened(&mut self, name: String, offset: u64) -> Result<Option<Opened>, StoreFault>
         ensures faults { self.new.faults ≡ self.old.faults }
-        ensures own { IfOk result (λ found. IfSome found (λ file. string_bytes file.name ≡ string_bytes name)) }
+        ensures own { IfOk result
+            (λ found. IfSome found (λ file. string_bytes file.name ≡ string_bytes name)) }
     {
         match self.begun.take() {
             Some(Begun { file, end }) if end.get() <= offset && file.name == name => Ok(Some(file)),
@@ -111,7 +112,8 @@ impl<'a, R: rt::Files<File = File>> FileStore<'a, R> {
         len: u32,
     ) -> Result<Option<Vec<u8>>, StoreFault>
         ensures short { IfOk result (λ found. IfSome found (λ v. length v.items ≤ len)) }
-        ensures at_most { IfOk result (λ found. IfSome found (λ v. length v.items ≤ most_part_bytes)) }
+        ensures at_most { IfOk result
+            (λ found. IfSome found (λ v. length v.items ≤ most_part_bytes)) }
         ensures taken { is_own_path path.now ≡ false → result ≡ Err Failed }
         ensures faults { self.new.faults ≡ self.old.faults }
     {
@@ -130,7 +132,8 @@ impl<'a, R: rt::Files<File = File>> FileStore<'a, R> {
     }
 
     fn read_whole(&mut self, alloc: Global, path: &str) -> Result<Option<Vec<u8>>, StoreFault>
-        ensures short { IfOk result (λ found. IfSome found (λ v. length v.items ≤ most_file_bytes)) }
+        ensures short { IfOk result
+            (λ found. IfSome found (λ v. length v.items ≤ most_file_bytes)) }
         ensures taken { is_own_path path.now ≡ false → result ≡ Err Failed }
         ensures faults { self.new.faults ≡ self.old.faults }
     {
@@ -227,7 +230,8 @@ impl<'a, R: rt::Files<File = File>> TileStore for FileStore<'a, R> {
 
     /// Makes the path's file have the bytes; Failed also for a path that is not taken.
     fn put(&mut self, alloc: Global, path: &str, bytes: &[u8]) -> Result<(), StoreFault>
-        ensures state { StorePuts (untold self.old.faults) (untold self.new.faults) path.now bytes.now result }
+        ensures state { StorePuts (untold self.old.faults) (untold self.new.faults)
+            path.now bytes.now result }
         ensures taken { is_own_path path.now ≡ false → result ≡ Err Failed }
         ensures forgets { self.new.begun ≡ None }
     {
@@ -237,7 +241,8 @@ impl<'a, R: rt::Files<File = File>> TileStore for FileStore<'a, R> {
 
     /// Makes the staged file the path's; Failed also for a path that is not taken.
     fn put_staged(&mut self, alloc: Global, path: &str, staged: &Staged) -> Result<(), StoreFault>
-        ensures state { StorePuts (untold self.old.faults) (untold self.new.faults) path.now staged.now.bytes result }
+        ensures state { StorePuts (untold self.old.faults) (untold self.new.faults)
+            path.now staged.now.bytes result }
         ensures taken { is_own_path path.now ≡ false → result ≡ Err Failed }
         ensures forgets { self.new.begun ≡ None }
     {
@@ -248,9 +253,11 @@ impl<'a, R: rt::Files<File = File>> TileStore for FileStore<'a, R> {
     /// The bytes of the path's file; Failed also where it has more than `2^31` bytes, and for a path that
     /// is not taken.
     fn get(&mut self, alloc: Global, path: &str) -> Result<Option<Vec<u8>>, StoreFault>
-        ensures state { Gets whole (untold self.old.faults) (untold self.new.faults) path.now result }
+        ensures state { Gets whole (untold self.old.faults) (untold self.new.faults)
+            path.now result }
         ensures taken { is_own_path path.now ≡ false → result ≡ Err Failed }
-        ensures at_most { IfOk result (λ found. IfSome found (λ v. length v.items ≤ most_file_bytes)) }
+        ensures at_most { IfOk result
+            (λ found. IfSome found (λ v. length v.items ≤ most_file_bytes)) }
     {
         let answer = self.read_whole(alloc, path);
         self.counted(answer)
@@ -265,9 +272,11 @@ impl<'a, R: rt::Files<File = File>> TileStore for FileStore<'a, R> {
         offset: u64,
         len: u32,
     ) -> Result<Option<Vec<u8>>, StoreFault>
-        ensures state { Gets (part offset len) (untold self.old.faults) (untold self.new.faults) path.now result }
+        ensures state { Gets (part offset len) (untold self.old.faults) (untold self.new.faults)
+            path.now result }
         ensures short { IfOk result (λ found. IfSome found (λ v. length v.items ≤ len)) }
-        ensures at_most { IfOk result (λ found. IfSome found (λ v. length v.items ≤ most_part_bytes)) }
+        ensures at_most { IfOk result
+            (λ found. IfSome found (λ v. length v.items ≤ most_part_bytes)) }
         ensures taken { is_own_path path.now ≡ false → result ≡ Err Failed }
     {
         let answer = self.read_part(alloc, path, offset, len);
@@ -407,7 +416,8 @@ fn clear_staged<R: rt::Files>(alloc: Global, files: &R, number: u64) -> Result<(
 
 // The file of the name; `None` where there is nothing, and Failed where there is a folder.
 fn open<R: rt::Files<File = File>>(files: &R, name: String) -> Result<Option<Opened>, StoreFault>
-    ensures { IfOk result (λ found. IfSome found (λ file. string_bytes file.name ≡ string_bytes name)) }
+    ensures { IfOk result
+        (λ found. IfSome found (λ file. string_bytes file.name ≡ string_bytes name)) }
 {
     let file = match fs::open(files, name.as_str()) {
         Ok(file) => file,

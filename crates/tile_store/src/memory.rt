@@ -29,7 +29,14 @@ impl Model for MemStore {
 
     ghost Value = { StoreHeld };
 
-    ghost view = { λ s. record { held = s.held.items; puts = s.puts.items; gets = s.gets.items; put_calls = s.put_calls; get_calls = s.get_calls; failed = s.failed.items } };
+    ghost view = { λ s. record {
+      held = s.held.items;
+      puts = s.puts.items;
+      gets = s.gets.items;
+      put_calls = s.put_calls;
+      get_calls = s.get_calls;
+      failed = s.failed.items;
+    } };
 }
 
 fn content<'a>(held: &'a [(Text, Bytes)], path: &str) -> Option<&'a Bytes>
@@ -59,7 +66,8 @@ fn hold(held: &mut Vec<(Text, Bytes)>, path: Text, bytes: Bytes)
 }
 
 fn note(failed: &mut Vec<FailedCall>, alloc: Global, path: &str, put: bool) -> Result<(), NoMemory>
-    ensures done { OnOk result (failed.new.items ≡ failed.old.items ++ record { name = path.now; put = put } ∷ []) }
+    ensures done { OnOk result
+        (failed.new.items ≡ failed.old.items ++ record { name = path.now; put = put } ∷ []) }
     ensures refused { OnErr result (failed.new.items ≡ failed.old.items) }
 {
     failed.push(FailedCall {
@@ -99,7 +107,14 @@ impl MemStore {
         puts: Vec<u64>,
         gets: Vec<u64>,
     ) -> Result<MemStore, NoMemory>
-        ensures { IfOk result (λ s. s ≡ record { held = held.items; puts = puts.items; gets = gets.items; put_calls = 0; get_calls = 0; failed = [] }) }
+        ensures { IfOk result (λ s. s ≡ record {
+          held = held.items;
+          puts = puts.items;
+          gets = gets.items;
+          put_calls = 0;
+          get_calls = 0;
+          failed = [];
+        }) }
     {
         Ok(MemStore {
             held,
@@ -131,7 +146,11 @@ impl MemStore {
     }
 
     fn keep(&mut self, alloc: Global, path: &str, bytes: &[u8]) -> Result<(), NoMemory>
-        ensures done { OnOk result (self.new ≡ record self.old { held = with_content self.old.held path.now bytes.now; put_calls = next_count self.old.put_calls }) }
+        ensures done { OnOk result
+            (self.new ≡ record self.old {
+              held = with_content self.old.held path.now bytes.now;
+              put_calls = next_count self.old.put_calls;
+            }) }
         ensures refused { OnErr result (self.new ≡ self.old) }
     {
         let name = Text::of(alloc, path)?;
@@ -144,7 +163,13 @@ impl MemStore {
 
     // A put that fails: the path holds half of the bytes. After want of memory all is as before.
     fn keep_half(&mut self, alloc: Global, path: &str, bytes: &[u8]) -> Result<(), NoMemory>
-        ensures done { OnOk result (self.new ≡ record self.old { held = with_content self.old.held path.now (half bytes.now); put_calls = next_count self.old.put_calls; failed = self.old.failed ++ failed_put path.now ∷ [] }) }
+        ensures done { OnOk result
+            (self.new ≡ record self.old {
+              held = with_content self.old.held path.now
+                  (half bytes.now);
+              put_calls = next_count self.old.put_calls;
+              failed = self.old.failed ++ failed_put path.now ∷ [];
+            }) }
         ensures refused { OnErr result (self.new ≡ self.old) }
     {
         let name = Text::of(alloc, path)?;
@@ -157,7 +182,11 @@ impl MemStore {
     }
 
     fn refuse(&mut self, alloc: Global, path: &str) -> Result<(), NoMemory>
-        ensures done { OnOk result (self.new ≡ record self.old { get_calls = next_count self.old.get_calls; failed = self.old.failed ++ failed_get path.now ∷ [] }) }
+        ensures done { OnOk result
+            (self.new ≡ record self.old {
+              get_calls = next_count self.old.get_calls;
+              failed = self.old.failed ++ failed_get path.now ∷ [];
+            }) }
         ensures refused { OnErr result (self.new ≡ self.old) }
     {
         note(&mut self.failed, alloc, path, false)?;
@@ -177,7 +206,8 @@ impl TileStore for MemStore {
     /// As the trait says, and exactly: it fails where its number is in the list, and then the path
     /// holds the first half of the bytes, rounded down.
     fn put(&mut self, alloc: Global, path: &str, bytes: &[u8]) -> Result<(), StoreFault>
-        ensures state { StorePuts (store_state self.old) (store_state self.new) path.now bytes.now result }
+        ensures state { StorePuts (store_state self.old) (store_state self.new)
+            path.now bytes.now result }
         ensures exact { PutsHeld self.old self.new path.now bytes.now result }
     {
         if self.put_is_to_fail() {
@@ -190,7 +220,8 @@ impl TileStore for MemStore {
 
     /// As the trait says, and exactly as `put`.
     fn put_staged(&mut self, alloc: Global, path: &str, staged: &Staged) -> Result<(), StoreFault>
-        ensures state { StorePuts (store_state self.old) (store_state self.new) path.now staged.now.bytes result }
+        ensures state { StorePuts (store_state self.old) (store_state self.new)
+            path.now staged.now.bytes result }
         ensures exact { PutsHeld self.old self.new path.now staged.now.bytes result }
     {
         self.put(alloc, path, staged.bytes())
@@ -221,7 +252,8 @@ impl TileStore for MemStore {
         offset: u64,
         len: u32,
     ) -> Result<Option<Vec<u8>>, StoreFault>
-        ensures state { Gets (part offset len) (store_state self.old) (store_state self.new) path.now result }
+        ensures state { Gets (part offset len) (store_state self.old) (store_state self.new)
+            path.now result }
         ensures short { IfOk result (λ found. IfSome found (λ v. length v.items ≤ len)) }
         ensures exact { GetsHeld (part offset len) self.old self.new path.now result }
     {

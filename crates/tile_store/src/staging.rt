@@ -72,7 +72,8 @@ pub fn stage_bytes<G: Stage>(
     number: u64,
     bytes: Vec<u8>,
 ) -> Result<Staged, Vec<u8>>
-    ensures staged { IfOk result (λ staged. staged ≡ record { number = number; bytes = bytes.items }) }
+    ensures staged { IfOk result
+        (λ staged. staged ≡ record { number = number; bytes = bytes.items }) }
     ensures written { IfOk result (λ staged. G.wrote gate.now staged.number staged.bytes) }
     ensures refused { IfErr result (λ back. back ≡ bytes) }
 {

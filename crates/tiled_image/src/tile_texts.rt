@@ -40,7 +40,11 @@ impl Model for TileTexts {
 
     ghost Value = { Texts };
 
-    ghost view = { λ m. record { before = m.before; side = m.side; tiles = tiles_in m.head (m.side * m.side) m.count (drop m.before m.bytes.items) } };
+    ghost view = { λ m. record {
+      before = m.before;
+      side = m.side;
+      tiles = tiles_in m.head (m.side * m.side) m.count (drop m.before m.bytes.items);
+    } };
 
     ghost invariant = { λ m. AreTexts m.before m.side m.count m.head m.bytes.items };
 }
@@ -89,7 +93,8 @@ fn copies(alloc: Global, before: usize, count: u32, text: &Blank) -> Result<Vec<
     requires before { before ≤ 2 ^ 16 }
     requires count { count ≤ 64 }
     requires len { length (text_of text.now) ≤ 2 ^ 20 }
-    ensures { IfOk result (λ v. v.items ≡ replicate before 0 ++ flat_map (λ bytes. bytes) (replicate count (text_of text.now))) }
+    ensures { IfOk result (λ v. v.items
+        ≡ replicate before 0 ++ flat_map (λ bytes. bytes) (replicate count (text_of text.now))) }
 {
     let each = text.head.len() + text.times as usize * text.rows.len();
     let mut out = Vec::with_capacity(alloc, before + count as usize * each)?;
@@ -139,7 +144,11 @@ impl TileTexts {
         requires before { before ≤ 2 ^ 16 }
         requires size { IsTileSize side }
         requires few { count ≤ 64 }
-        ensures { IfOk result (λ v. v ≡ record { before = before; side = side; tiles = replicate count (replicate (side * side) c) }) }
+        ensures { IfOk result (λ v. v ≡ record {
+          before = before;
+          side = side;
+          tiles = replicate count (replicate (side * side) c);
+        }) }
     {
         let text = blank_of(alloc, side, c)?;
         let bytes = copies(alloc, before, count, &text)?;
@@ -195,7 +204,10 @@ impl TileTexts {
         requires order { start ≤ end }
         requires inside { end ≤ self.old.side * self.old.side }
         requires opacity { opacity ≤ 1000 }
-        ensures { self.new ≡ record self.old { tiles = slice_set self.old.tiles tile (run_changed (blend c opacity) start (end - start) (slice_index_or self.old.tiles tile [])) } }
+        ensures { self.new ≡ record self.old {
+          tiles = slice_set self.old.tiles tile (run_changed
+              (blend c opacity) start (end - start) (slice_index_or self.old.tiles tile []));
+        } }
     {
         let pixels = (self.side * self.side) as usize;
         let at = pixels_at(self.before, self.head, pixels, tile);

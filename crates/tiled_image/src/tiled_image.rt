@@ -32,7 +32,12 @@ impl Model for TiledImage {
 
     ghost Value = { Pixels };
 
-    ghost view = { λ m. record { cols = m.texts.side * m.grid.across; rows = m.texts.side * m.grid.across; pixels = joined m.texts.side m.grid.across m.texts.tiles } };
+    ghost view = { λ m. record {
+      cols = m.texts.side * m.grid.across;
+      rows = m.texts.side
+          * m.grid.across;
+      pixels = joined m.texts.side m.grid.across m.texts.tiles;
+    } };
 
     ghost invariant = { λ m. IsTiled m.grid.shift m.grid.across m.texts };
 }
@@ -102,7 +107,11 @@ impl TiledImage {
         requires size { IsTileSize size }
         requires some { 1 ≤ across }
         requires few { across ≤ 8 }
-        ensures { IfOk result (λ m. m ≡ record { cols = size * across; rows = size * across; pixels = replicate (size * across * (size * across)) c }) }
+        ensures { IfOk result (λ m. m ≡ record {
+          cols = size * across;
+          rows = size * across;
+          pixels = replicate (size * across * (size * across)) c;
+        }) }
     {
         let texts = TileTexts::over(alloc, before, size, across * across, c)?;
         Ok(TiledImage {
@@ -164,7 +173,8 @@ impl TiledImage {
         requires cols { end ≤ self.old.cols }
         requires opacity { opacity ≤ 1000 }
         ensures { self.new ≡ record self.old {
-          pixels = run_changed (blend c opacity) (j * self.old.cols + start) (end - start) self.old.pixels;
+          pixels = run_changed (blend c opacity) (j * self.old.cols + start) (end - start)
+              self.old.pixels;
         } }
     {
         let mut from = start;
@@ -190,7 +200,8 @@ impl TiledImage {
     ) -> Result<(), NoMemory>
         requires in_cols { col + cols ≤ self.now.cols }
         requires in_rows { row + rows ≤ self.now.rows }
-        ensures { OnOk result (out.new.items ≡ out.old.items ++ ppm cols rows (cut_of self.now col row cols rows).pixels) }
+        ensures { OnOk result (out.new.items
+            ≡ out.old.items ++ ppm cols rows (cut_of self.now col row cols rows).pixels) }
     {
         // Opened, so that its rows are known to be few.
         let _tiles = &self.texts;
@@ -202,7 +213,8 @@ impl TiledImage {
     /// The texts of its parts of `size` by `size` pixels, by columns, `across` side by side, behind these bytes: its own
     /// bytes, where it was made of such tiles with room for as many bytes before them. Else it comes back.
     pub fn into_texts(self, front: &[u8], size: u32, across: u32) -> Result<Vec<u8>, TiledImage>
-        ensures { MatchResult result (λ v. v.items ≡ front.now ++ flat_map (λ text. text) (part_texts self size across)) (λ image. image ≡ self) }
+        ensures { MatchResult result (λ v. v.items ≡ front.now
+            ++ flat_map (λ text. text) (part_texts self size across)) (λ image. image ≡ self) }
     {
         if self.texts.before() == front.len()
             && self.texts.side() == size
@@ -225,7 +237,8 @@ impl TiledImage {
         requires raster { IsRaster self.now.cols self.now.rows (length self.now.pixels) }
         requires in_cols { col + cols ≤ self.now.cols }
         requires in_rows { row + rows ≤ self.now.rows }
-        ensures { OnOk result (out.new.items ≡ out.old.items ++ flat_map pixel_bytes (cut_rows self.now.cols col row cols rows self.now.pixels)) }
+        ensures { OnOk result (out.new.items ≡ out.old.items
+            ++ flat_map pixel_bytes (cut_rows self.now.cols col row cols rows self.now.pixels)) }
     {
         for j in row..row + rows {
             self.put_row(j, col, col + cols, out)?;
@@ -238,7 +251,8 @@ impl TiledImage {
         requires row { j < self.now.rows }
         requires order { start ≤ end }
         requires cols { end ≤ self.now.cols }
-        ensures { OnOk result (out.new.items ≡ out.old.items ++ flat_map pixel_bytes (take (end - start) (drop (j * self.now.cols + start) self.now.pixels))) }
+        ensures { OnOk result (out.new.items ≡ out.old.items ++ flat_map pixel_bytes
+            (take (end - start) (drop (j * self.now.cols + start) self.now.pixels))) }
     {
         for i in start..end {
             let c = self.pixel(i, j);

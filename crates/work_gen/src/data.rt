@@ -124,7 +124,8 @@ fn add_layer(
     name: &str,
     features: Vec<Feature>,
 ) -> Result<(), NoMemory>
-    ensures { OnOk result (layers.new.items ≡ layers.old.items ++ record { name = name.now; features = features.items } ∷ []) }
+    ensures { OnOk result (layers.new.items
+        ≡ layers.old.items ++ record { name = name.now; features = features.items } ∷ []) }
 {
     let name = Text::of(alloc, name)?;
     layers.push(Layer { name, features })?;

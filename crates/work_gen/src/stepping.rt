@@ -63,7 +63,8 @@ fn next_step(draws: &mut Draws, features: u32, number: u32) -> Step
     requires few { number < 32 }
     requires turn { draws.old.made ≡ 4 * features + 3 * number }
     ensures value { result ≡ spec.step_at draws.old.seed features number }
-    ensures next { draws.new ≡ record { seed = draws.old.seed; made = 4 * features + 3 * (number + 1) } }
+    ensures next { draws.new
+        ≡ record { seed = draws.old.seed; made = 4 * features + 3 * (number + 1) } }
 {
     let z = 11 + draws.next(4);
     let x = behind_middle(draws, z);

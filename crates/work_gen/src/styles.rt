@@ -53,7 +53,8 @@ fn paint(number: u8) -> Symbolizer
 }
 
 fn filter(alloc: Global, kind: u8) -> Result<Expr, NoMemory>
-    ensures { IfOk result (λ e. tree_of e ≡ compare_tree (name_tree (codes "kind")) sign.Equal (number_tree (pos kind))) }
+    ensures { IfOk result (λ e. tree_of e
+        ≡ compare_tree (name_tree (codes "kind")) sign.Equal (number_tree (pos kind))) }
 {
     let name = Box::new(alloc, Expr::Name(Text::of(alloc, "kind")?))?;
     let number = Box::new(alloc, Expr::Number(i64::from(kind)))?;
@@ -121,7 +122,8 @@ fn layer(alloc: Global, name: &str) -> Result<LayerRef, NoMemory>
 fn add_style(alloc: Global, styles: &mut Vec<Style>, name: &str, first: u8) -> Result<(), NoMemory>
     requires first { first ≤ 8 }
     requires fits { IsTrue (is_text_to 64 name.now) }
-    ensures { OnOk result (styles.new.items ≡ styles.old.items ++ spec.work_style name.now first ∷ []) }
+    ensures { OnOk result
+        (styles.new.items ≡ styles.old.items ++ spec.work_style name.now first ∷ []) }
 {
     styles.push(style(alloc, name, first)?)?;
     Ok(())
@@ -136,7 +138,8 @@ fn add_layer(alloc: Global, layers: &mut Vec<LayerRef>, name: &str) -> Result<()
 }
 
 fn styles(alloc: Global) -> Result<Vec<Style>, NoMemory>
-    ensures { IfOk result (λ v. v.items ≡ spec.work_style (codes "land") 0 ∷ spec.work_style (codes "roads") 4 ∷ spec.work_style (codes "spots") 8 ∷ []) }
+    ensures { IfOk result (λ v. v.items ≡ spec.work_style (codes "land") 0
+        ∷ spec.work_style (codes "roads") 4 ∷ spec.work_style (codes "spots") 8 ∷ []) }
 {
     let mut styles = Vec::new(alloc);
     add_style(alloc, &mut styles, "land", 0)?;
@@ -146,7 +149,8 @@ fn styles(alloc: Global) -> Result<Vec<Style>, NoMemory>
 }
 
 fn layers(alloc: Global) -> Result<Vec<LayerRef>, NoMemory>
-    ensures { IfOk result (λ v. v.items ≡ spec.work_layer (codes "land") ∷ spec.work_layer (codes "roads") ∷ spec.work_layer (codes "spots") ∷ []) }
+    ensures { IfOk result (λ v. v.items ≡ spec.work_layer (codes "land")
+        ∷ spec.work_layer (codes "roads") ∷ spec.work_layer (codes "spots") ∷ []) }
 {
     let mut layers = Vec::new(alloc);
     add_layer(alloc, &mut layers, "land")?;

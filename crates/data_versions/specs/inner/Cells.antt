@@ -27,11 +27,14 @@ column_of b p = part_of b.west b.east p.x
 pub record Marks (box part : Bounds) (block : CellBlock) : Type 0 where
   pub from : (p : Point) → InBounds box p → InBounds part p → block.top ≤ row_of box p
   pub to : (p : Point) → InBounds box p → InBounds part p → row_of box p ≤ block.bottom
-  pub across : (p : Point) → InBounds box p → InBounds part p → bit_at block.columns (column_of box p) ≡ 1
+  pub across : (p : Point) → InBounds box p → InBounds part p
+      → bit_at block.columns (column_of box p) ≡ 1
 
--- each point that lies in the box and in the part has its cell among the cells: in the number of its row the bit of its column is set
+-- each point that lies in the box and in the part has its cell among the cells: in the number of
+-- its row the bit of its column is set
 pub record HasCells (box part : Bounds) (cells : List ℕ) : Type 0 where
-  pub each : (p : Point) → InBounds box p → InBounds part p → bit_at (get_or cells (row_of box p) 0) (column_of box p) ≡ 1
+  pub each : (p : Point) → InBounds box p → InBounds part p
+      → bit_at (get_or cells (row_of box p) 0) (column_of box p) ≡ 1
 
 -- the rectangle holds a point
 pub record IsWide (b : Bounds) : Type 0 where

@@ -23,9 +23,11 @@ begins_past n (e ∷ edits) = ltb n e.0
 abbrev pub standing_edits : List (ℕ × Option Feature) → List Feature
 standing_edits edits = filter_map (λ e. e.1) edits
 
--- the features, of which the first has the number n, after edits in the order of their numbers; what is put past the last one stands after it
+-- the features, of which the first has the number n, after edits in the order of their numbers;
+-- what is put past the last one stands after it
 abbrev pub edited : ℕ → List (ℕ × Option Feature) → List Feature → List Feature
 edited n edits [] = standing_edits edits
 edited n [] (f ∷ features) = f ∷ features
 edited n (e ∷ edits) (f ∷ features) =
-    cond (nat_eq e.0 n) (option_to_list e.1 ++ edited (suc n) edits features) (f ∷ edited (suc n) (e ∷ edits) features)
+    cond (nat_eq e.0 n) (option_to_list e.1 ++ edited (suc n) edits features)
+    (f ∷ edited (suc n) (e ∷ edits) features)

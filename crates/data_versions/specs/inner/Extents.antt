@@ -5,7 +5,8 @@ use Rattle.geo_model.specs.Bounds.{Within}
 use Rattle.data_versions.specs.inner.Cells.{IsWide, box_of}
 use Rattle.data_versions.specs.declared.extent.Extent.{Extent}
 
--- the feature's id is one of the two or between them, and its box lies in the box, and holds a point
+-- the feature's id is one of the two or between them, and its box lies in the box, and holds a
+-- point
 pub record IsIn (e : Extent) (f : Feature) : Type 0 where
   pub from : e.least ≤ f.id
   pub to : f.id ≤ e.greatest

@@ -7,9 +7,11 @@ abbrev pub laid : {A : Type 0} → List (List A) → List A
 laid parts = flat_map (λ p. p) parts
 
 -- the place of each part's first element, and how many elements there are
-pub record IsLaid {B A : Type 0} (inside : B → List A) (starts : List ℕ) (count : ℕ) (parts : List B) : Type 0 where
+pub record IsLaid {B A : Type 0} (inside : B → List A) (starts : List ℕ) (count : ℕ)
+    (parts : List B) : Type 0 where
   pub long : length starts ≡ length parts
-  pub each : (k : ℕ) → k < length parts → get_or starts k 0 ≡ length (flat_map inside (take k parts))
+  pub each : (k : ℕ) → k < length parts
+      → get_or starts k 0 ≡ length (flat_map inside (take k parts))
   pub counted : count ≡ length (flat_map inside parts)
 
 -- none from the place `from` on passes before the place `at`, from which on the part stands

@@ -1,6 +1,8 @@
--- The tables that Marks keep. One has a node for each key that was shown. The other has a spot for the place of each such key, and for each place
--- above one: a word of bits, one for each of 64 maps. The square of a place of zoom 3 or later has four squares of the next zoom, whose places
--- are found by their numbers; so the spots are a quadtree for all maps of a group, and the places are its links.
+-- The tables that Marks keep. One has a node for each key that was shown. The other has a spot for
+-- the place of each such key, and for each place above one: a word of bits, one for each of 64
+-- maps. The square of a place of zoom 3 or later has four squares of the next zoom, whose places
+-- are found by their numbers; so the spots are a quadtree for all maps of a group, and the places
+-- are its links.
 use Rattle.std.specs.Prelude.{ℕ, ◌-◌, ◌*◌, ◌/◌, ◌%◌, ◌^◌, ◌≤◌, ◌<◌, ◌≡◌, ◌==◌, ◌&&◌, Bool, true, false, List, [], ◌∷◌, Option, Some, None, is_some}
 use Rattle.std.specs.Int.{bit_at}
 use Rattle.std.specs.Map.{lookup}
@@ -14,7 +16,10 @@ use Rattle.expiry_lists.specs.Marks.{Shown}
 
 -- the key whose square is the quarter's that holds this key's square, for keys from zoom 4 on
 abbrev pub parent : Key → Key
-parent k = record { map = k.map; meta = record { z = k.meta.z - 1; x = k.meta.x / 16 * 8; y = k.meta.y / 16 * 8 } }
+parent k = record {
+  map = k.map;
+  meta = record { z = k.meta.z - 1; x = k.meta.x / 16 * 8; y = k.meta.y / 16 * 8 };
+}
 
 -- the place of a key, for its group of 64 maps: the group's number stands for the map's
 abbrev pub place_of : Key → Key
@@ -32,7 +37,8 @@ has_bit word b = bit_at word b == 1
 abbrev pub at_bits : Key → ℕ → Key → Bool
 at_bits place word k = same_key place (place_of k) && has_bit word (bit_of k)
 
--- the tables: the nodes and the spots with their keys, in the order in which they came, and for how many more of each there is room
+-- the tables: the nodes and the spots with their keys, in the order in which they came, and for how
+-- many more of each there is room
 pub record NodeTable : Type 0 where
   pub entries : List (Key × Node)
   pub spots : List (Key × Spot)
@@ -96,8 +102,8 @@ owns_at ss p b = has_bit (own_word (spot_of ss p)) b
 abbrev pub lives_at : List (Key × Spot) → Key → ℕ → Bool
 lives_at ss p b = has_bit (live_word (spot_of ss p)) b
 
--- the keys and the places are those of metatiles, a shown key's place has a spot, above each spot stand spots up to zoom 3, a clean key has its
--- bits, and what stands above a live one is live
+-- the keys and the places are those of metatiles, a shown key's place has a spot, above each spot
+-- stand spots up to zoom 3, a clean key has its bits, and what stands above a live one is live
 pub record IsTree (es : List (Key × Node)) (ss : List (Key × Spot)) : Type 0 where
   pub metas : (k : Key) → has_node es k ≡ true → IsMeta k.meta
   pub places : (p : Key) → has_spot ss p ≡ true → IsMeta p.meta
@@ -105,8 +111,10 @@ pub record IsTree (es : List (Key × Node)) (ss : List (Key × Spot)) : Type 0 w
   pub spotted : (k : Key) → has_node es k ≡ true → has_spot ss (place_of k) ≡ true
   pub rooted : (p : Key) → 3 < p.meta.z → has_spot ss p ≡ true → has_spot ss (parent p) ≡ true
   pub own : (k : Key) → is_clean_at es k ≡ true → owns_at ss (place_of k) (bit_of k) ≡ true
-  pub clean_live : (k : Key) → 3 ≤ k.meta.z → is_clean_at es k ≡ true → lives_at ss (place_of k) (bit_of k) ≡ true
-  pub rises : (p : Key) (b : ℕ) → 3 < p.meta.z → lives_at ss p b ≡ true → lives_at ss (parent p) b ≡ true
+  pub clean_live : (k : Key) → 3 ≤ k.meta.z → is_clean_at es k ≡ true
+      → lives_at ss (place_of k) (bit_of k) ≡ true
+  pub rises : (p : Key) (b : ℕ) → 3 < p.meta.z → lives_at ss p b ≡ true
+      → lives_at ss (parent p) b ≡ true
 
 -- nothing is live that was not
 abbrev pub Quieter : List (Key × Spot) → List (Key × Spot) → Type 0

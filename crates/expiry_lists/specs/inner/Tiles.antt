@@ -11,12 +11,17 @@ world_key map z = record { map = map; meta = record { z = z; x = 0; y = 0 } }
 
 -- whether the key is one of the three that share the square of zoom 3's
 abbrev pub is_flat : ℕ → Key → Bool
-is_flat map k = (same_key (world_key map 0) k || same_key (world_key map 1) k) || same_key (world_key map 2) k
+is_flat map k =
+    (same_key (world_key map 0) k || same_key (world_key map 1) k) || same_key (world_key map 2) k
 
 -- the map's key whose square is the tile's, or the smallest that holds it
 abbrev pub key_over : ℕ → Tile → Key
-key_over map t = if nat_le t.z 15 then record { map = map; meta = record { z = t.z + 3; x = t.x * 8; y = t.y * 8 } }
-    else record { map = map; meta = record { z = 18; x = t.x / 2 ^ (t.z - 15) * 8; y = t.y / 2 ^ (t.z - 15) * 8 } }
+key_over map t = if nat_le t.z 15
+    then record { map = map; meta = record { z = t.z + 3; x = t.x * 8; y = t.y * 8 } }
+    else record {
+      map = map;
+      meta = record { z = 18; x = t.x / 2 ^ (t.z - 15) * 8; y = t.y / 2 ^ (t.z - 15) * 8 };
+    }
 
 -- whether the key's map is one of these
 abbrev pub is_of_maps : List ℕ → Key → Bool

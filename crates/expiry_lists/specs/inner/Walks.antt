@@ -8,13 +8,21 @@ use Rattle.expiry_lists.specs.inner.Nodes.{NodeTable, parent, place_of, bit_of, 
 
 -- the key of quarter j of a key's square, by rows
 abbrev pub child : ℕ → Key → Key
-child j k = record { map = k.map; meta = record { z = k.meta.z + 1; x = k.meta.x * 2 + 8 * (j % 2); y = k.meta.y * 2 + 8 * (j / 2) } }
+child j k = record {
+  map = k.map;
+  meta = record {
+    z = k.meta.z + 1;
+    x = k.meta.x * 2 + 8 * (j % 2);
+    y = k.meta.y * 2 + 8 * (j / 2);
+  };
+}
 
 -- whether k is top, or below it at most n zooms
 unfoldable pub is_under : ℕ → Key → Key → Bool
 is_under zero top k = same_key top k
 is_under (suc n) top k =
-    (((is_under n (child 0 top) k || is_under n (child 1 top) k) || is_under n (child 2 top) k) || is_under n (child 3 top) k) || same_key top k
+    (((is_under n (child 0 top) k || is_under n (child 1 top) k) || is_under n (child 2 top) k)
+    || is_under n (child 3 top) k) || same_key top k
 
 -- whether k is above low by at most n zooms
 unfoldable pub is_above : ℕ → Key → Key → Bool
@@ -31,8 +39,8 @@ pub record Dirties (test : Key → Bool) (old new : List Shown) (count : ℕ) : 
   pub marks : new ≡ dirtied_marks test old
   pub counted : count ≡ clean_marks test old
 
--- what an expiry does to the tables: the keys that pass the test were made dirty, the tables are a quadtree with the same keys and places, nothing
--- is live that was not, and no room is taken
+-- what an expiry does to the tables: the keys that pass the test were made dirty, the tables are a
+-- quadtree with the same keys and places, nothing is live that was not, and no room is taken
 pub record Walks (test : Key → Bool) (old new : NodeTable) (count : ℕ) : Type 0 where
   pub dirties : Dirties test (shown_of old.entries) (shown_of new.entries) count
   pub tree : IsTree new.entries new.spots

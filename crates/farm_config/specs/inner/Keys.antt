@@ -16,5 +16,6 @@ restyle_keys = codes "map" ∷ codes "style" ∷ []
 -- the keys that a configuration may have
 abbrev pub config_keys : List (List ℕ)
 config_keys =
-    codes "maps" ∷ codes "data" ∷ codes "updates" ∷ codes "expiries" ∷ codes "workers" ∷ codes "limits" ∷ codes "renderd" ∷ codes "tiles"
+    codes "maps" ∷ codes "data" ∷ codes "updates" ∷ codes "expiries" ∷ codes "workers"
+    ∷ codes "limits" ∷ codes "renderd" ∷ codes "tiles"
     ∷ codes "control" ∷ codes "restyles" ∷ codes "resume" ∷ []

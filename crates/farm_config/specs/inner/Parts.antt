@@ -23,7 +23,13 @@ service_of d = do
   renderd ← or_value None (an_address 7) (get (codes "renderd") d)
   tiles ← or_value None (an_address 8) (get (codes "tiles") d)
   control ← or_value None (an_address 9) (get (codes "control") d)
-  Ok (record { workers = workers; limits = limits; renderd = renderd; tiles = tiles; control = control })
+  Ok (record {
+    workers = workers;
+    limits = limits;
+    renderd = renderd;
+    tiles = tiles;
+    control = control;
+  })
 
 -- what is read last: the restyles of the maps, and whether a saved farm is resumed
 unfoldable pub start_of : List MapEntry → Data → Result (List RestyleEntry × Bool) ConfigFault
@@ -42,4 +48,16 @@ config_by_parts d = do
   expiries ← or_value [] (files_of 4) (get (codes "expiries") d)
   service ← service_of d
   start ← start_of maps d
-  Ok (record { maps = maps; dataset = dataset; updates = updates; expiries = expiries; workers = service.workers; limits = service.limits; renderd = service.renderd; tiles = service.tiles; control = service.control; restyles = start.0; resume = start.1 })
+  Ok (record {
+    maps = maps;
+    dataset = dataset;
+    updates = updates;
+    expiries = expiries;
+    workers = service.workers;
+    limits = service.limits;
+    renderd = service.renderd;
+    tiles = service.tiles;
+    control = service.control;
+    restyles = start.0;
+    resume = start.1;
+  })

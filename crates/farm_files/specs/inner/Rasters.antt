@@ -1,4 +1,5 @@
--- What a raster file says, as the code reads it: in one, with a fault of either kind. Words of inner contracts.
+-- What a raster file says, as the code reads it: in one, with a fault of either kind. Words of
+-- inner contracts.
 use Rattle.std.specs.Prelude.{ℕ, List, Option, Result, Ok, Err}
 use Rattle.plain_shapes.specs.Images.{Pixels}
 use Rattle.plain_drawing.specs.Grids.{Grid}
@@ -31,6 +32,7 @@ abbrev pub after_ppm : RasterRef → Result Pixels PpmFault → Result Grid Rast
 after_ppm r (Ok image) = with_image r image
 after_ppm r (Err fault) = Err (Ppm fault)
 
--- what the bytes of a raster's file say: the grid, or the fault of the PPM text, or that of the grid
+-- what the bytes of a raster's file say: the grid, or the fault of the PPM text, or that of the
+-- grid
 abbrev pub raster_in : RasterRef → List ℕ → Result Grid RasterFault
 raster_in r bytes = after_ppm r (ppm_of bytes)

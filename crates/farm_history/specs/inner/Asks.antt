@@ -1,4 +1,5 @@
--- What the answer to an ask depends on, as a record of tests, and the answer by them. Words of inner contracts and of proofs.
+-- What the answer to an ask depends on, as a record of tests, and the answer by them. Words of
+-- inner contracts and of proofs.
 use Rattle.std.specs.Prelude.{ℕ, Bool, ◌&&◌, ◌||◌, not, nat_le, if◌then◌else◌, List, length}
 use Rattle.farm_base.specs.Limits.{most_asks, most_asks_of_one}
 use Rattle.farm_history.specs.declared.queues.Conn.{Conn}
@@ -37,7 +38,8 @@ pub record Tests : Type 0 where
   -- the dirty queue is below its limit
   pub dirty_room : Bool
 
--- the answer where the metatile is not being drawn, by the first line that holds; n is the number of the ask
+-- the answer where the metatile is not being drawn, by the first line that holds; n is the number
+-- of the ask
 unfoldable pub answer_of_waiting : Bool → Bool → Bool → Bool → Bool → ℕ → AskAnswer
 answer_of_waiting liftable in_dirty waits own_room dirty_room n =
     if liftable && own_room then Lifted n
@@ -64,10 +66,12 @@ tests_of p g conn command spot = record {
   stopped = is_stopped g;
   servable = is_servable p spot;
   clean = is_clean p g (key_of spot);
-  backlog = nat_le most_asks_of_one (how_many_of conn (open_asks g)) || nat_le most_asks (length (open_asks g));
+  backlog = nat_le most_asks_of_one (how_many_of conn (open_asks g))
+      || nat_le most_asks (length (open_asks g));
   overtaken = is_overtaken p g (key_of spot);
   flies = flies g (key_of spot);
-  liftable = is_lifting command && (waits_in_queue (waiting p g) Queue.Dirty (key_of spot) || waits_in_queue (waiting p g) Queue.Bulk (key_of spot));
+  liftable = is_lifting command && (waits_in_queue (waiting p g) Queue.Dirty (key_of spot)
+      || waits_in_queue (waiting p g) Queue.Bulk (key_of spot));
   in_dirty = waits_in_queue (waiting p g) Queue.Dirty (key_of spot);
   waits = waits p g (key_of spot);
   own_room = has_room p.limits (own_queue command) (waiting p g);

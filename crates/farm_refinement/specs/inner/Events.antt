@@ -1,4 +1,5 @@
--- What each event makes of a farm's counts, its queues and its drawings under way, and what the farm itself tells of an ask.
+-- What each event makes of a farm's counts, its queues and its drawings under way, and what the
+-- farm itself tells of an ask.
 use Rattle.std.specs.Prelude.{ℕ, ◌+◌, Bool, true, false, ◌&&◌, ◌||◌, not, ◌==◌, nat_le, if◌then◌else◌, List, [], length, map, filter, find, Option, Some, None, is_some}
 use Rattle.std.specs.List.{list_any}
 use Rattle.farm_base.specs.Limits.{most_asks, most_asks_of_one}
@@ -35,10 +36,20 @@ use Rattle.farm_refinement.specs.Seen.{Counts, FarmSeen}
 
 -- nothing is counted yet
 abbrev pub no_counts : Counts
-no_counts = record { turns = 0; stopped = false; version = 0; numbers = 0; jobs = 0; asks = 0; done = 0; stored = 0 }
+no_counts = record {
+  turns = 0;
+  stopped = false;
+  version = 0;
+  numbers = 0;
+  jobs = 0;
+  asks = 0;
+  done = 0;
+  stored = 0;
+}
 
 -- a farm as it begins, over a store, with these styles' numbers and marks
-abbrev pub new_farm : {D : Type 0} → FarmPlan → Option Saving → D → List (Option ℕ) → MarksSeen → FarmSeen D
+abbrev pub new_farm : {D : Type 0} → FarmPlan → Option Saving → D → List (Option ℕ) → MarksSeen
+    → FarmSeen D
 new_farm plan saved store st ms = record {
   plan = plan;
   saved = saved;
@@ -70,7 +81,8 @@ asked_counts command answer c = record c {
 
 -- whether the key waits in one of the queues
 abbrev pub waits_at : Tables → Key → Bool
-waits_at t k = is_in k t.lines.prio.keys || (is_in k t.lines.request.keys || (is_in k t.lines.low.keys || (is_in k t.lines.dirty.keys || is_in k t.lines.bulk.keys)))
+waits_at t k = is_in k t.lines.prio.keys || (is_in k t.lines.request.keys
+    || (is_in k t.lines.low.keys || (is_in k t.lines.dirty.keys || is_in k t.lines.bulk.keys)))
 
 -- the tests of an ask, by what the farm keeps
 abbrev pub tests_at : {D : Type 0} → FarmSeen D → Conn → Cmd → Spot → Tests
@@ -78,10 +90,12 @@ tests_at farm conn command spot = record {
   stopped = farm.counts.stopped;
   servable = is_servable (plan_of farm.plan) spot;
   clean = is_clean_mark (mark_of farm.marks.shown (key_of spot));
-  backlog = nat_le most_asks_of_one (open_of farm.queues conn) || nat_le most_asks (open_count farm.queues);
+  backlog = nat_le most_asks_of_one (open_of farm.queues conn)
+      || nat_le most_asks (open_count farm.queues);
   overtaken = list_any (λ (x : Taken). same_key x.key (key_of spot) && x.touched) farm.taken;
   flies = is_in (key_of spot) farm.queues.taken;
-  liftable = is_lifting command && (is_in (key_of spot) farm.queues.lines.dirty.keys || is_in (key_of spot) farm.queues.lines.bulk.keys);
+  liftable = is_lifting command && (is_in (key_of spot) farm.queues.lines.dirty.keys
+      || is_in (key_of spot) farm.queues.lines.bulk.keys);
   in_dirty = is_in (key_of spot) farm.queues.lines.dirty.keys;
   waits = waits_at farm.queues (key_of spot);
   own_room = is_below (line_of farm.queues.lines (own_queue command));
@@ -104,7 +118,8 @@ asked_tables t own k conn _ = t
 abbrev pub with_dirty : Tables → Key → Tables
 with_dirty t k = if is_below t.lines.dirty then after_place t Queue.Dirty k else t
 
--- the tables after an ask with Dirty that touches its key: one that stands nowhere goes to the dirty queue
+-- the tables after an ask with Dirty that touches its key: one that stands nowhere goes to the
+-- dirty queue
 abbrev pub marked_tables : Tables → Key → Tables
 marked_tables t k = if waits_at t k || is_in k t.taken then t else with_dirty t k
 
@@ -123,7 +138,12 @@ claim_at farm =
 
 -- a drawing that is claimed now
 abbrev pub new_flight : ℕ → Key → ℕ → Taken
-new_flight ticket k version = record { ticket = ticket; key = k; version = version; touched = false }
+new_flight ticket k version = record {
+  ticket = ticket;
+  key = k;
+  version = version;
+  touched = false;
+}
 
 -- the drawing under way with that ticket
 abbrev pub taken_at : List Taken → ℕ → Option Taken
@@ -154,7 +174,14 @@ dirtied_taken test taken = map (overtaken_by test) taken
 
 -- a kept key that is asked for, claimed, stored and collected in a replay
 abbrev pub replayed_counts : Counts → Counts
-replayed_counts c = record c { turns = c.turns + 4; numbers = c.numbers + 1; jobs = c.jobs + 1; asks = c.asks + 1; done = c.done + 1; stored = c.stored + 1 }
+replayed_counts c = record c {
+  turns = c.turns + 4;
+  numbers = c.numbers + 1;
+  jobs = c.jobs + 1;
+  asks = c.asks + 1;
+  done = c.done + 1;
+  stored = c.stored + 1;
+}
 
 -- ---- reads and replies
 
@@ -165,7 +192,8 @@ looked_by (Some m) = if m.clean then Looked.Clean m.version else Looked.Dirty m.
 
 -- what a look is answered, by what the farm keeps
 abbrev pub look_at : {D : Type 0} → FarmSeen D → Spot → Looked
-look_at farm spot = if is_servable (plan_of farm.plan) spot then looked_by (mark_of farm.marks.shown (key_of spot)) else Looked.Unservable
+look_at farm spot = if is_servable (plan_of farm.plan) spot
+    then looked_by (mark_of farm.marks.shown (key_of spot)) else Looked.Unservable
 
 -- the reply, if there is one; else Stopped after a Stop, and Empty before
 abbrev pub collected_by : Option Reply → Bool → Collected
@@ -175,11 +203,13 @@ collected_by None false = Collected.Empty
 
 -- what a collect is answered, by what the farm keeps
 abbrev pub collect_at : {D : Type 0} → FarmSeen D → ℕ → Collected
-collect_at farm front = collected_by (find (is_of_front front) farm.queues.ended) farm.counts.stopped
+collect_at farm front =
+    collected_by (find (is_of_front front) farm.queues.ended) farm.counts.stopped
 
 -- a reply that was collected
 abbrev pub collected_counts : Reply → Counts → Counts
-collected_counts r c = record c { turns = c.turns + 1; done = if is_done r.outcome then c.done + 1 else c.done }
+collected_counts r c =
+    record c { turns = c.turns + 1; done = if is_done r.outcome then c.done + 1 else c.done }
 
 -- a Stop
 abbrev pub stopped_counts : Counts → Counts

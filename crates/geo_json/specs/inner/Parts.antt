@@ -20,10 +20,11 @@ use Rattle.geo_json.specs.declared.faults.DataFault.TheVariants.{Geo}
 abbrev pub attrs_at : DataFault → Data → Result (List Attr) DataFault
 attrs_at shape d = or_value [] (attrs_of shape) (get (codes "attrs") d)
 
--- the faults that the parts of a feature may have, in order: those of its shape, and then more than 64 attributes;
--- the keys of an object are distinct, so no two attributes have one name
+-- the faults that the parts of a feature may have, in order: those of its shape, and then more than
+-- 64 attributes; the keys of an object are distinct, so no two attributes have one name
 abbrev pub parts_fault : Geometry → List Attr → Option GeoFault
-parts_fault g attrs = first_of (shape_fault g) (if nat_lt most_attrs (length attrs) then Some TooManyAttrs else None)
+parts_fault g attrs =
+    first_of (shape_fault g) (if nat_lt most_attrs (length attrs) then Some TooManyAttrs else None)
 
 -- the feature, or the fault that its parts have, with its places
 abbrev pub made_unless : ℕ → ℕ → Feature → Option GeoFault → Result Feature DataFault
@@ -32,7 +33,8 @@ made_unless part place f (Some fault) = Err (Geo fault part place)
 
 -- the feature of these parts, or their first fault
 abbrev pub made_of : ℕ → ℕ → ℕ → Geometry → List Attr → Result Feature DataFault
-made_of part place id g attrs = made_unless part place (record { id = id; geometry = g; attrs = attrs }) (parts_fault g attrs)
+made_of part place id g attrs =
+    made_unless part place (record { id = id; geometry = g; attrs = attrs }) (parts_fault g attrs)
 
 -- the same, as one check after another
 abbrev pub made_by_checks : ℕ → ℕ → ℕ → Geometry → List Attr → Result Feature DataFault

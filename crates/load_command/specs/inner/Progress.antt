@@ -38,14 +38,17 @@ byte_sum bytes = sum_by (λ b. b) bytes
 
 -- a tile is expired first, where the step says so
 abbrev pub Expires : Step → List Entry → List Entry → Type 0
-Expires s before after = MatchBool s.expire ((count : ℕ) × (after ≡ Expire (spot_tile s.spot) count ∷ before)) (after ≡ before)
+Expires s before after = MatchBool s.expire
+    ((count : ℕ) × (after ≡ Expire (spot_tile s.spot) count ∷ before)) (after ≡ before)
 
--- how many events there were, and how many asks are open: a Collect that gives a reply makes it no more
+-- how many events there were, and how many asks are open: a Collect that gives a reply makes it no
+-- more
 abbrev pub weight : List Entry → ℕ
 weight h = length h + length (open_asks h)
 
 -- a farm that stands for a history of which this holds, and which weighs so much at most
-pub record Grows {D : Type 0} (state : D → Outside StoreTold) (store_tells : Bool) (farm : FarmSeen D) (most : ℕ) (holds : List Entry → Type 0) : Type 0 where
+pub record Grows {D : Type 0} (state : D → Outside StoreTold) (store_tells : Bool)
+    (farm : FarmSeen D) (most : ℕ) (holds : List Entry → Type 0) : Type 0 where
   pub after : List Entry
   pub stands : StandsFor state store_tells farm after
   pub small : weight after ≤ most
@@ -55,29 +58,37 @@ pub record Grows {D : Type 0} (state : D → Outside StoreTold) (store_tells : B
 abbrev pub BreaksOff : Step → List Entry → List Entry → Type 0
 BreaksOff s before after = (rest : List Entry) × (after ≡ rest ++ before) × Each (IsEventOf s) rest
 
--- what was claimed was drawn and ended; whether its put failed is told. In want of memory it broke off
+-- what was claimed was drawn and ended; whether its put failed is told. In want of memory it broke
+-- off
 abbrev pub Draws : Step → List Entry → Result Bool NoMemory → List Entry → Type 0
-Draws s before (Ok failed) after = (claimed : ClaimAnswer) × EndsClaim claimed (Claim 0 claimed ∷ before) after × (has_failed after ≡ (failed || has_failed before))
+Draws s before (Ok failed) after = (claimed : ClaimAnswer) × EndsClaim claimed
+    (Claim 0 claimed ∷ before) after × (has_failed after ≡ (failed || has_failed before))
 Draws s before (Err wanting) after = BreaksOff s before after
 
 -- the replies were collected, until there was none
 abbrev pub CollectsAll : List Entry → List Entry → Type 0
-CollectsAll before after = (replies : List Reply) × (last : Collected) × GivesNone last × (after ≡ Collect 0 last ∷ (map collect_entry replies ++ before))
+CollectsAll before after = (replies : List Reply) × (last : Collected) × GivesNone last
+    × (after ≡ Collect 0 last ∷ (map collect_entry replies ++ before))
 
 -- the tile of a fetch that is clean
 abbrev pub clean_of : Fetched → List (List ℕ)
 clean_of (Clean version bytes) = bytes ∷ []
 clean_of answer = []
 
--- The tile of the spot was fetched: after one history a Fetch, with what it gave; and whether a call of the store failed, where
--- that is told of what came before. In want of memory that came of the Fetch.
+-- The tile of the spot was fetched: after one history a Fetch, with what it gave; and whether a
+-- call of the store failed, where that is told of what came before. In want of memory that came of
+-- the Fetch.
 abbrev pub FetchesOne : Spot → Bool → List Entry → Result StepSeen NoMemory → List Entry → Type 0
-FetchesOne spot lost before (Ok seen) after = (after ≡ Fetch spot seen.fetched ∷ before) × (seen.fetched ≢ Fetched.NoMemory) × (seen.failed ≡ (is_failed_fetch seen.fetched || lost))
+FetchesOne spot lost before (Ok seen) after = (after ≡ Fetch spot seen.fetched ∷ before)
+    × (seen.fetched ≢ Fetched.NoMemory) × (seen.failed ≡ (is_failed_fetch seen.fetched || lost))
 FetchesOne spot lost before (Err wanting) after = after ≡ Fetch spot Fetched.NoMemory ∷ before
 
--- a step was run, with what was fetched, and whether a call of the store failed. In want of memory it broke off
+-- a step was run, with what was fetched, and whether a call of the store failed. In want of memory
+-- it broke off
 abbrev pub Steps : Step → List Entry → Result StepSeen NoMemory → List Entry → Type 0
-Steps s before (Ok seen) after = IsStep s before after × (clean_tiles after ≡ clean_of seen.fetched ++ clean_tiles before) × (has_failed after ≡ (seen.failed || has_failed before))
+Steps s before (Ok seen) after =
+    IsStep s before after × (clean_tiles after ≡ clean_of seen.fetched ++ clean_tiles before)
+    × (has_failed after ≡ (seen.failed || has_failed before))
 Steps s before (Err wanting) after = BreaksOff s before after
 
 -- the totals with those of a step more
@@ -114,11 +125,15 @@ pub record LoadsShort (steps : List Step) (stands : List Entry → Type 0) : Typ
   pub stood_for : stands (rest ++ middle)
 
 -- the steps were run; or memory was wanting in one
-abbrev pub Runs : {D : Type 0} → (D → Outside StoreTold) → Bool → FarmSeen D → List Step → Result Totals NoMemory → Type 0
-Runs state store_tells farm steps (Ok totals) = (h : List Entry) × StandsFor state store_tells farm h × IsLoad steps [] h × Tells totals (length steps) h
-Runs state store_tells farm steps (Err wanting) = LoadsShort steps (λ h. StandsFor state store_tells farm h)
+abbrev pub Runs : {D : Type 0} → (D → Outside StoreTold) → Bool → FarmSeen D → List Step
+    → Result Totals NoMemory → Type 0
+Runs state store_tells farm steps (Ok totals) = (h : List Entry)
+    × StandsFor state store_tells farm h × IsLoad steps [] h × Tells totals (length steps) h
+Runs state store_tells farm steps (Err wanting) =
+    LoadsShort steps (λ h. StandsFor state store_tells farm h)
 
--- the line was put, all of it or a front; where all was, it is told whether a call of the store failed
+-- the line was put, all of it or a front; where all was, it is told whether a call of the store
+-- failed
 abbrev pub TellsLine : SinkAt → SinkAt → List ℕ → Bool → Result (Unit {0}) Stop → Type 0
 TellsLine out out' line failed (Ok done) = Puts out out' line (Ok tt) × (failed ≡ false)
 TellsLine out out' line failed (Err stop.StoreFailed) = Puts out out' line (Ok tt) × (failed ≡ true)

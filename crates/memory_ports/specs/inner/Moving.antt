@@ -43,4 +43,5 @@ pub record Moves (old new : PortsHeld) : Type 0 where
 
 -- whether a step is in order where these connections are alive, and which are alive after it
 abbrev pub Follows : List Bool → PortStep → List Bool → Bool → Type 0
-Follows before s after valid = (rest : List PortStep) → is_valid before (s ∷ rest) ≡ cond valid (is_valid after rest) false
+Follows before s after valid =
+    (rest : List PortStep) → is_valid before (s ∷ rest) ≡ cond valid (is_valid after rest) false

@@ -1,4 +1,5 @@
--- The drawing as whole pictures: what each step makes of all pixels of a window at once. Words of inner contracts.
+-- The drawing as whole pictures: what each step makes of all pixels of a window at once. Words of
+-- inner contracts.
 use Rattle.std.specs.Prelude.{ℕ, if◌then◌else◌, List, fold, flat_map}
 use Rattle.plain_world.specs.declared.world.Window.{Window}
 use Rattle.plain_drawing.specs.declared.style.Symbolizer.{Symbolizer}
@@ -15,7 +16,8 @@ with_symbolizer w item image s = stepped w (λ c d. symbolizer_at w.pixel item c
 
 -- after all that an item meets in a style
 unfoldable pub with_item : Window → ℕ → Style → Pixels → Item → Pixels
-with_item w denominator style image item = fold (with_symbolizer w item) image (item_symbolizers (item_attrs item) denominator style)
+with_item w denominator style image item =
+    fold (with_symbolizer w item) image (item_symbolizers (item_attrs item) denominator style)
 
 -- after a style's pass over all items
 unfoldable pub with_style : Window → ℕ → List Item → Pixels → Style → Pixels
@@ -25,9 +27,11 @@ with_style w denominator items image style = fold (with_item w denominator style
 unfoldable pub with_layer : Window → ℕ → MapStyle → List Layer → Pixels → LayerRef → Pixels
 with_layer w denominator style data_layers image layer =
     if is_active layer.minimum_scale_denominator layer.maximum_scale_denominator denominator
-    then fold (with_style w denominator (items_of style.grids data_layers layer.source)) image (flat_map (style_named style.styles) layer.styles)
+    then fold (with_style w denominator (items_of style.grids data_layers layer.source)) image
+    (flat_map (style_named style.styles) layer.styles)
     else image
 
 -- after all layers of a map style
 unfoldable pub with_map : Window → ℕ → MapStyle → List Layer → Pixels → Pixels
-with_map w denominator style data_layers image = fold (with_layer w denominator style data_layers) image style.layers
+with_map w denominator style data_layers image =
+    fold (with_layer w denominator style data_layers) image style.layers

@@ -1,5 +1,6 @@
--- A filter tree can be told apart from every other by numbers alone, which a type that is seen as trees asks for. Each kind of value
--- has its code and the way back, and the way back from a code gives the value again. No meaning of a filter rests on this file.
+-- A filter tree can be told apart from every other by numbers alone, which a type that is seen as
+-- trees asks for. Each kind of value has its code and the way back, and the way back from a code
+-- gives the value again. No meaning of a filter rests on this file.
 use Rattle.std.specs.Prelude.{ℕ, List, [], ◌∷◌, Bool, true, false, cond, ◌==◌, ℤ, pos, negsuc, ◌≡◌, refl}
 use Rattle.std.proofs.Common.{sym, ◌∙◌, ap}
 use base.Stored.{Gv, gnil, gnum, gcons, num, Coded}
@@ -22,7 +23,8 @@ compare_number GreaterEqual = 5
 
 -- a sign of comparison from its number
 abbrev compare_back : ℕ → CompareSign
-compare_back n = cond (n == 0) Equal (cond (n == 1) Unequal (cond (n == 2) Less (cond (n == 3) LessEqual (cond (n == 4) Greater GreaterEqual))))
+compare_back n = cond (n == 0) Equal (cond (n == 1) Unequal
+    (cond (n == 2) Less (cond (n == 3) LessEqual (cond (n == 4) Greater GreaterEqual))))
 
 -- signs of a sum
 abbrev sum_number : SumSign → ℕ
@@ -80,7 +82,8 @@ abbrev mutual
   tree_code (or_tree parts) = node 0 gnil gnil (trees_code parts)
   tree_code (and_tree parts) = node 1 gnil gnil (trees_code parts)
   tree_code (not_tree part) = node 2 gnil (tree_code part) gnil
-  tree_code (compare_tree a sign b) = node 3 (gnum (compare_number sign)) (tree_code a) (tree_code b)
+  tree_code (compare_tree a sign b) =
+      node 3 (gnum (compare_number sign)) (tree_code a) (tree_code b)
   tree_code (sum_tree first later) = node 4 gnil (tree_code first) (sums_code later)
   tree_code (product_tree first later) = node 5 gnil (tree_code first) (products_code later)
   tree_code (negate_tree part) = node 6 gnil (tree_code part) gnil
@@ -96,18 +99,23 @@ abbrev mutual
 
   sums_code : SumTrees → Gv
   sums_code no_sums = gnil
-  sums_code (sum_then sign part later) = gcons (gnum (sum_number sign)) (gcons (tree_code part) (sums_code later))
+  sums_code (sum_then sign part later) =
+      gcons (gnum (sum_number sign)) (gcons (tree_code part) (sums_code later))
 
   products_code : ProductTrees → Gv
   products_code no_products = gnil
-  products_code (product_then sign part later) = gcons (gnum (product_number sign)) (gcons (tree_code part) (products_code later))
+  products_code (product_then sign part later) =
+      gcons (gnum (product_number sign)) (gcons (tree_code part) (products_code later))
 
 -- the tree of a node's parts, each read as a tree and as the lists that it may be
-abbrev node_back : ℕ → Gv → FilterTree → FilterTree → FilterTrees → SumTrees → ProductTrees → FilterTree
+abbrev node_back : ℕ → Gv → FilterTree → FilterTree → FilterTrees → SumTrees → ProductTrees
+    → FilterTree
 node_back kind held a b bs sums products =
     cond (kind == 0) (or_tree bs) (cond (kind == 1) (and_tree bs) (cond (kind == 2) (not_tree a)
-    (cond (kind == 3) (compare_tree a (compare_back (num held)) b) (cond (kind == 4) (sum_tree a sums) (cond (kind == 5) (product_tree a products)
-    (cond (kind == 6) (negate_tree a) (cond (kind == 7) (name_tree (text_back held)) (cond (kind == 8) (text_tree (text_back held))
+    (cond (kind == 3) (compare_tree a (compare_back (num held)) b)
+    (cond (kind == 4) (sum_tree a sums) (cond (kind == 5) (product_tree a products)
+    (cond (kind == 6) (negate_tree a) (cond (kind == 7) (name_tree (text_back held))
+    (cond (kind == 8) (text_tree (text_back held))
     (cond (kind == 9) (number_tree (number_back held)) (truth_tree (num held == 1)))))))))))
 
 -- a code read back as a tree or as a list of parts; what is no code gives the null of its kind
@@ -119,7 +127,8 @@ abbrev mutual
   tree_back (gcons kind (gnum n)) = null_tree
   tree_back (gcons kind (gcons held gnil)) = null_tree
   tree_back (gcons kind (gcons held (gnum n))) = null_tree
-  tree_back (gcons kind (gcons held (gcons a b))) = node_back (num kind) held (tree_back a) (tree_back b) (trees_back b) (sums_back b) (products_back b)
+  tree_back (gcons kind (gcons held (gcons a b))) = node_back (num kind) held (tree_back a)
+      (tree_back b) (trees_back b) (sums_back b) (products_back b)
 
   trees_back : Gv → FilterTrees
   trees_back gnil = no_trees
@@ -131,14 +140,16 @@ abbrev mutual
   sums_back (gnum n) = no_sums
   sums_back (gcons sign gnil) = no_sums
   sums_back (gcons sign (gnum n)) = no_sums
-  sums_back (gcons sign (gcons part later)) = sum_then (sum_back (num sign)) (tree_back part) (sums_back later)
+  sums_back (gcons sign (gcons part later)) =
+      sum_then (sum_back (num sign)) (tree_back part) (sums_back later)
 
   products_back : Gv → ProductTrees
   products_back gnil = no_products
   products_back (gnum n) = no_products
   products_back (gcons sign gnil) = no_products
   products_back (gcons sign (gnum n)) = no_products
-  products_back (gcons sign (gcons part later)) = product_then (product_back (num sign)) (tree_back part) (products_back later)
+  products_back (gcons sign (gcons part later)) =
+      product_then (product_back (num sign)) (tree_back part) (products_back later)
 
 -- what is read back from each kind's code is the value
 compare_round : (s : CompareSign) → compare_back (compare_number s) ≡ s
@@ -176,9 +187,11 @@ mutual
   tree_round (or_tree parts) = λ i. or_tree (trees_round parts i)
   tree_round (and_tree parts) = λ i. and_tree (trees_round parts i)
   tree_round (not_tree part) = λ i. not_tree (tree_round part i)
-  tree_round (compare_tree a sign b) = λ i. compare_tree (tree_round a i) (compare_round sign i) (tree_round b i)
+  tree_round (compare_tree a sign b) =
+      λ i. compare_tree (tree_round a i) (compare_round sign i) (tree_round b i)
   tree_round (sum_tree first later) = λ i. sum_tree (tree_round first i) (sums_round later i)
-  tree_round (product_tree first later) = λ i. product_tree (tree_round first i) (products_round later i)
+  tree_round (product_tree first later) =
+      λ i. product_tree (tree_round first i) (products_round later i)
   tree_round (negate_tree part) = λ i. negate_tree (tree_round part i)
   tree_round (name_tree name) = λ i. name_tree (text_round name i)
   tree_round (text_tree text) = λ i. text_tree (text_round text i)
@@ -192,12 +205,15 @@ mutual
 
   sums_round : (ts : SumTrees) → sums_back (sums_code ts) ≡ ts
   sums_round no_sums = refl
-  sums_round (sum_then sign part later) = λ i. sum_then (sum_round sign i) (tree_round part i) (sums_round later i)
+  sums_round (sum_then sign part later) =
+      λ i. sum_then (sum_round sign i) (tree_round part i) (sums_round later i)
 
   products_round : (ts : ProductTrees) → products_back (products_code ts) ≡ ts
   products_round no_products = refl
-  products_round (product_then sign part later) = λ i. product_then (product_round sign i) (tree_round part i) (products_round later i)
+  products_round (product_then sign part later) =
+      λ i. product_then (product_round sign i) (tree_round part i) (products_round later i)
 
 -- the codes of filter trees, no two of which are alike
 abbrev pub filter_code : Coded FilterTree
-filter_code = record { code = tree_code; inj = λ x y e. sym (tree_round x) ∙ ap tree_back e ∙ tree_round y }
+filter_code =
+    record { code = tree_code; inj = λ x y e. sym (tree_round x) ∙ ap tree_back e ∙ tree_round y }

@@ -1,5 +1,5 @@
--- What is done to masks and images: bits are set and pixels painted at the centres of a window, and parts are cut out. Words of inner contracts:
--- no colour of a drawing is defined by them.
+-- What is done to masks and images: bits are set and pixels painted at the centres of a window, and
+-- parts are cut out. Words of inner contracts: no colour of a drawing is defined by them.
 use Rattle.std.specs.Prelude.{◌≡◌, ℕ, ◌+◌, ◌*◌, Bool, true, ◌||◌, cond, List, [], ◌∷◌, take, drop, flat_map}
 use Rattle.std.specs.List.{range_with_len}
 use Rattle.plain_world.specs.declared.world.Point.{Point}
@@ -29,9 +29,11 @@ painted s opacity [] ds = ds
 painted s opacity (b ∷ bs) [] = []
 painted s opacity (b ∷ bs) (d ∷ ds) = cond b (blend s opacity d) d ∷ painted s opacity bs ds
 
--- a part of a list of rows, each of so many places across: so many columns from a column on, so many rows from a row on
+-- a part of a list of rows, each of so many places across: so many columns from a column on, so
+-- many rows from a row on
 abbrev pub cut_rows : {X : Type 0} → ℕ → ℕ → ℕ → ℕ → ℕ → List X → List X
-cut_rows across col row cols rows xs = flat_map (λ j. take cols (drop (j * across + col) xs)) (range_with_len row rows)
+cut_rows across col row cols rows xs =
+    flat_map (λ j. take cols (drop (j * across + col) xs)) (range_with_len row rows)
 
 -- that part of an image
 abbrev pub cut_of : Pixels → ℕ → ℕ → ℕ → ℕ → Pixels

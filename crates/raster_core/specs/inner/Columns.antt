@@ -1,4 +1,5 @@
--- Columns that run down from corners, and all crossings: those that are listed as places, and those of columns.
+-- Columns that run down from corners, and all crossings: those that are listed as places, and those
+-- of columns.
 use Rattle.std.specs.Prelude.{◌≡◌, ℕ, ◌<◌, Bool, not, ◌&&◌, nat_le, List, count_by}
 use Rattle.plain_world.specs.declared.world.Point.{Point}
 use Rattle.plain_world.specs.declared.world.Window.{Window}
@@ -27,7 +28,8 @@ in_run run j i = (nat_le run.top j && not (nat_le run.bottom j)) && nat_le run.c
 
 -- whether row j has an odd number of crossings up to column i
 abbrev pub parity_of : Window → Crossed → ℕ → ℕ → Bool
-parity_of w crossed j i = flip (odd_corners crossed.corners.items j i) (parity_at w.cols crossed.places.items j i)
+parity_of w crossed j i =
+    flip (odd_corners crossed.corners.items j i) (parity_at w.cols crossed.places.items j i)
 
 -- which pixels of the rows from one on and before another have a member as their centre
 abbrev pub in_part : Window → (Point → Bool) → ℕ → ℕ → ℕ → ℕ → Bool
@@ -35,17 +37,20 @@ in_part w member from to j i = (nat_le from j && not (nat_le to j)) && member (c
 
 -- the parities of the corners are turned round exactly at the members, pixels by row and column
 pub record CornersTurned (w : Window) (member : ℕ → ℕ → Bool) (old new : List Corner) : Type 0 where
-  pub at : (j i : ℕ) → j < w.rows → i < w.cols → odd_corners new j i ≡ flip (member j i) (odd_corners old j i)
+  pub at : (j i : ℕ) → j < w.rows → i < w.cols
+      → odd_corners new j i ≡ flip (member j i) (odd_corners old j i)
 
 -- each parity is turned round exactly at the members, pixels by row and column
 pub record PartTurned (w : Window) (member : ℕ → ℕ → Bool) (old new : Crossed) : Type 0 where
   pub inside : AllInside w old.places.items → AllInside w new.places.items
-  pub at : (j i : ℕ) → j < w.rows → i < w.cols → parity_of w new j i ≡ flip (member j i) (parity_of w old j i)
+  pub at : (j i : ℕ) → j < w.rows → i < w.cols
+      → parity_of w new j i ≡ flip (member j i) (parity_of w old j i)
 
 -- each parity is turned round exactly where the pixel's centre is a member
 pub record Turned (w : Window) (member : Point → Bool) (old new : Crossed) : Type 0 where
   pub inside : AllInside w old.places.items → AllInside w new.places.items
-  pub at : (j i : ℕ) → j < w.rows → i < w.cols → parity_of w new j i ≡ flip (member (centre w i j)) (parity_of w old j i)
+  pub at : (j i : ℕ) → j < w.rows → i < w.cols
+      → parity_of w new j i ≡ flip (member (centre w i j)) (parity_of w old j i)
 
 -- each parity stays
 pub record SameTurns (w : Window) (old new : Crossed) : Type 0 where
@@ -55,9 +60,12 @@ pub record SameTurns (w : Window) (old new : Crossed) : Type 0 where
 -- the places have the parities of all crossings
 pub record Lists (w : Window) (crossed : Crossed) (places : List ℕ) : Type 0 where
   pub inside : AllInside w crossed.places.items → AllInside w places
-  pub at : (j i : ℕ) → j < w.rows → i < w.cols → parity_at w.cols places j i ≡ parity_of w crossed j i
+  pub at : (j i : ℕ) → j < w.rows → i < w.cols
+      → parity_at w.cols places j i ≡ parity_of w crossed j i
 
--- the new parities, turned round at the members that are left, are the old ones turned round at all members
+-- the new parities, turned round at the members that are left, are the old ones turned round at all
+-- members
 pub record Remains (w : Window) (left whole : Point → Bool) (old new : Crossed) : Type 0 where
   pub inside : AllInside w old.places.items → AllInside w new.places.items
-  pub at : (j i : ℕ) → j < w.rows → i < w.cols → flip (left (centre w i j)) (parity_of w new j i) ≡ flip (whole (centre w i j)) (parity_of w old j i)
+  pub at : (j i : ℕ) → j < w.rows → i < w.cols → flip (left (centre w i j)) (parity_of w new j i)
+      ≡ flip (whole (centre w i j)) (parity_of w old j i)

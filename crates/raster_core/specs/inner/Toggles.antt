@@ -1,4 +1,5 @@
--- The places at which edges are crossed: how many of them a row has up to a column says, by parity, whether that pixel's centre is a member.
+-- The places at which edges are crossed: how many of them a row has up to a column says, by parity,
+-- whether that pixel's centre is a member.
 use Rattle.std.specs.Prelude.{◌≡◌, ◌≢◌, ℕ, ◌+◌, ◌*◌, ◌/◌, ◌<◌, ◌≤◌, min, max, Bool, true, false, not, ◌&&◌, nat_le, List, [], ◌∷◌, count_by, All}
 use Rattle.plain_world.specs.declared.world.Point.{Point}
 use Rattle.plain_world.specs.declared.world.Window.{Window}
@@ -30,18 +31,25 @@ at_centres w member j i = member (centre w i j)
 -- each parity is turned round exactly at the members, pixels by row and column
 pub record Toggled (w : Window) (member : ℕ → ℕ → Bool) (old new : List ℕ) : Type 0 where
   pub inside : AllInside w old → AllInside w new
-  pub at : (j i : ℕ) → j < w.rows → i < w.cols → parity_at w.cols new j i ≡ flip (member j i) (parity_at w.cols old j i)
+  pub at : (j i : ℕ) → j < w.rows → i < w.cols
+      → parity_at w.cols new j i ≡ flip (member j i) (parity_at w.cols old j i)
 
 -- in one row each parity is turned round exactly at the members, and the other rows stay
-pub record RowToggled (w : Window) (member : ℕ → ℕ → Bool) (row : ℕ) (old new : List ℕ) : Type 0 where
+pub record RowToggled (w : Window) (member : ℕ → ℕ → Bool) (row : ℕ)
+    (old new : List ℕ) : Type 0 where
   pub inside : AllInside w old → AllInside w new
-  pub at : (i : ℕ) → i < w.cols → parity_at w.cols new row i ≡ flip (member row i) (parity_at w.cols old row i)
-  pub others : (j i : ℕ) → j ≢ row → i < w.cols → parity_at w.cols new j i ≡ parity_at w.cols old j i
+  pub at : (i : ℕ) → i < w.cols
+      → parity_at w.cols new row i ≡ flip (member row i) (parity_at w.cols old row i)
+  pub others : (j i : ℕ) → j ≢ row → i < w.cols
+      → parity_at w.cols new j i ≡ parity_at w.cols old j i
 
--- in the rows before one each parity is turned round exactly at the members, and the other rows stay
-pub record RowsToggled (w : Window) (member : ℕ → ℕ → Bool) (rows : ℕ) (old new : List ℕ) : Type 0 where
+-- in the rows before one each parity is turned round exactly at the members, and the other rows
+-- stay
+pub record RowsToggled (w : Window) (member : ℕ → ℕ → Bool) (rows : ℕ)
+    (old new : List ℕ) : Type 0 where
   pub inside : AllInside w old → AllInside w new
-  pub done : (j i : ℕ) → j < rows → j < w.rows → i < w.cols → parity_at w.cols new j i ≡ flip (member j i) (parity_at w.cols old j i)
+  pub done : (j i : ℕ) → j < rows → j < w.rows → i < w.cols
+      → parity_at w.cols new j i ≡ flip (member j i) (parity_at w.cols old j i)
   pub rest : (j i : ℕ) → rows ≤ j → i < w.cols → parity_at w.cols new j i ≡ parity_at w.cols old j i
 
 -- as many places of each kind, by parity
@@ -56,13 +64,16 @@ set_places n (false ∷ bits) = set_places (n + 1) bits
 
 -- the first column whose centre lies at x or past it, or the number of columns
 abbrev pub IsFirst : Window → ℕ → ℕ → Type 0
-IsFirst w x col = (i : ℕ) → i < w.cols → nat_le col i ≡ nat_le x (w.west + i * w.pixel + w.pixel / 2)
+IsFirst w x col =
+    (i : ℕ) → i < w.cols → nat_le col i ≡ nat_le x (w.west + i * w.pixel + w.pixel / 2)
 
 -- the first row whose centre lies at y or past it, or the number of rows
 abbrev pub IsFirstRow : Window → ℕ → ℕ → Type 0
-IsFirstRow w y row = (j : ℕ) → j < w.rows → nat_le row j ≡ nat_le y (w.north + j * w.pixel + w.pixel / 2)
+IsFirstRow w y row =
+    (j : ℕ) → j < w.rows → nat_le row j ≡ nat_le y (w.north + j * w.pixel + w.pixel / 2)
 
--- the edge's ends lie in the world, the upper one first, and the columns and rows are the first at its west, east, upper and lower end
+-- the edge's ends lie in the world, the upper one first, and the columns and rows are the first at
+-- its west, east, upper and lower end
 pub record IsEdge (w : Window) (e : Edge) : Type 0 where
   pub a_in : InWorld e.a
   pub b_in : InWorld e.b

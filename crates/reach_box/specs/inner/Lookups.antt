@@ -1,4 +1,5 @@
--- The features that an update names, as they are looked up one by one, and the boxes that are added for them.
+-- The features that an update names, as they are looked up one by one, and the boxes that are added
+-- for them.
 use Rattle.std.specs.Prelude.{ℕ, ◌≡◌, nat_eq, List, [], ◌∷◌, ◌++◌, find, flat_map, Option, Some, None}
 use Rattle.plain_shapes.specs.Features.{Feature, Layer}
 use Rattle.plain_shapes.specs.Data.{Change}
@@ -19,7 +20,8 @@ at_id features id = feature_list (find (λ f. nat_eq f.id id) features)
 abbrev pub at_put : List Feature → Feature → List Feature
 at_put features p = at_id features p.id ++ p ∷ []
 
--- the features that a change names, over the old ones of its layer: those whose ids it removes, and for each that it puts the old one of its id and the new one
+-- the features that a change names, over the old ones of its layer: those whose ids it removes, and
+-- for each that it puts the old one of its id and the new one
 abbrev pub met_by : List Feature → Change → List Feature
 met_by features c = flat_map (at_id features) c.remove ++ flat_map (at_put features) c.put
 

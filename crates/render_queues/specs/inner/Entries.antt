@@ -1,4 +1,5 @@
--- All that waits, in one list: keys in the order in which they came, each with its queue, or with none where it has left.
+-- All that waits, in one list: keys in the order in which they came, each with its queue, or with
+-- none where it has left.
 use Rattle.std.specs.Prelude.{ℕ, ◌+◌, ◌*◌, Bool, false, List, map, filter, Option, Some, None, is_some}
 use Rattle.farm_history.specs.declared.keys.Key.{Key}
 use Rattle.farm_history.specs.declared.queues.Limits.{Limits}

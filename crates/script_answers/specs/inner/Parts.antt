@@ -10,11 +10,13 @@ use Rattle.script_answers.specs.Answers.{number_line, meta_number}
 
 -- the numbers of a metatile's lowest tile
 abbrev pub place_words : Key → List ℕ
-place_words key = decimal key.meta.z ++ codes " " ++ decimal key.meta.x ++ codes " " ++ decimal key.meta.y
+place_words key =
+    decimal key.meta.z ++ codes " " ++ decimal key.meta.x ++ codes " " ++ decimal key.meta.y
 
 -- a drawing to make: its ticket, its map's name, its place in words and the data version
 abbrev pub job_words : ℕ → List ℕ → List ℕ → ℕ → List ℕ
-job_words ticket name place version = codes "job " ++ decimal ticket ++ codes " " ++ name ++ codes " " ++ place ++ codes " " ++ decimal version ++ codes "\n"
+job_words ticket name place version = codes "job " ++ decimal ticket ++ codes " " ++ name
+    ++ codes " " ++ place ++ codes " " ++ decimal version ++ codes "\n"
 
 -- the same by its key
 abbrev pub job_line : ℕ → List ℕ → Key → ℕ → List ℕ
@@ -27,11 +29,13 @@ NamesJob names name _ = Unit {0}
 
 -- a new data version, and how many clean metatiles became dirty
 abbrev pub renewed_line : ℕ → ℕ → List ℕ
-renewed_line v count = codes "version " ++ decimal v ++ codes " renewed " ++ decimal count ++ codes "\n"
+renewed_line v count =
+    codes "version " ++ decimal v ++ codes " renewed " ++ decimal count ++ codes "\n"
 
 -- the line before a tile's bytes: its version and their number
 abbrev pub tile_head : List ℕ → ℕ → List ℕ → List ℕ
-tile_head word version bytes = word ++ decimal version ++ codes " " ++ decimal (length bytes) ++ codes "\n"
+tile_head word version bytes =
+    word ++ decimal version ++ codes " " ++ decimal (length bytes) ++ codes "\n"
 
 -- the first line of a fetch
 abbrev pub fetch_head : Fetched → Option (List ℕ)

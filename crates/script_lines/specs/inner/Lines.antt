@@ -10,11 +10,13 @@ use Rattle.script_lines.specs.Lines.{line_tile, place_of}
 
 -- fetch MAP Z X Y
 abbrev pub fetch_of : ScriptFault → List ℕ → Result ScriptLine ScriptFault
-fetch_of fault text = place_of fault text >>= λ place. Ok (Fetch place.0 place.1.0 place.1.1 place.1.2)
+fetch_of fault text =
+    place_of fault text >>= λ place. Ok (Fetch place.0 place.1.0 place.1.1 place.1.2)
 
 -- look MAP Z X Y
 abbrev pub look_of : ScriptFault → List ℕ → Result ScriptLine ScriptFault
-look_of fault text = place_of fault text >>= λ place. Ok (Look place.0 place.1.0 place.1.1 place.1.2)
+look_of fault text =
+    place_of fault text >>= λ place. Ok (Look place.0 place.1.0 place.1.1 place.1.2)
 
 -- expire Z X Y
 abbrev pub expire_of : ScriptFault → List ℕ → Result ScriptLine ScriptFault

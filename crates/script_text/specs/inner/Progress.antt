@@ -11,8 +11,11 @@ use Rattle.script_lines.specs.declared.script.ScriptLine.{ScriptLine}
 use Rattle.script_text.specs.ScriptTexts.{has_failed, LinesText}
 use Rattle.script_text.specs.inner.Hands.{tickets, HandStands}
 
--- the first so many lines were run, and their text was put; whether a call of the store failed is noted
-pub record Goes {D : Type 0} (state : D → Outside StoreTold) (store_tells : Bool) (plan : FarmPlan) (lines : List ScriptLine) (count : ℕ) (before : List Entry) (farm : FarmSeen D) (hand : List JobSeen)
+-- the first so many lines were run, and their text was put; whether a call of the store failed is
+-- noted
+pub record Goes {D : Type 0} (state : D → Outside StoreTold) (store_tells : Bool) (plan : FarmPlan)
+    (lines : List ScriptLine) (count : ℕ) (before : List Entry) (farm : FarmSeen D)
+    (hand : List JobSeen)
     (out out' : Outside (List ℕ)) (failed : Bool) : Type 0 where
   pub after : List Entry
   pub stands : StandsFor state store_tells farm after

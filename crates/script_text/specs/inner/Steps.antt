@@ -43,8 +43,10 @@ pub record SaysEntry (plan : FarmPlan) (e : Entry) (said : SaidSeen) : Type 0 wh
   pub text_is : entry_text (names_of plan) e ≡ Some said.text
   pub failed_is : said.failed ≡ is_failed e
 
--- the line's event was entered, and this is its answer; want of memory may come in place of the answer
-pub record Enters {D : Type 0} (state : D → Outside StoreTold) (store_tells : Bool) (farm : FarmSeen D) (plan : FarmPlan) (l : ScriptLine) (before : List Entry)
+-- the line's event was entered, and this is its answer; want of memory may come in place of the
+-- answer
+pub record Enters {D : Type 0} (state : D → Outside StoreTold) (store_tells : Bool)
+    (farm : FarmSeen D) (plan : FarmPlan) (l : ScriptLine) (before : List Entry)
     (result : Result SaidSeen NoMemory) : Type 0 where
   pub e : Entry
   pub is_entry : IsEntryOf plan l e
@@ -52,12 +54,17 @@ pub record Enters {D : Type 0} (state : D → Outside StoreTold) (store_tells : 
   pub said : IfOk result (SaysEntry plan e)
 
 -- the line was entered, whatever history the farm stood for before it
-abbrev pub EntersFrom : {D : Type 0} → (D → Outside StoreTold) → FarmSeen D → FarmSeen D → ScriptLine → Result SaidSeen NoMemory → Type 0
-EntersFrom state old new l result = (store_tells : Bool) (g : List Entry) → StandsFor state store_tells old g → Enters state store_tells new old.plan l g result
+abbrev pub EntersFrom : {D : Type 0} → (D → Outside StoreTold) → FarmSeen D → FarmSeen D
+    → ScriptLine → Result SaidSeen NoMemory → Type 0
+EntersFrom state old new l result = (store_tells : Bool) (g : List Entry)
+    → StandsFor state store_tells old g → Enters state store_tells new old.plan l g result
 
 -- the line was answered, with the jobs in hand before it and behind it; or it broke off
-abbrev pub Answers : {D : Type 0} → (D → Outside StoreTold) → Bool → FarmSeen D → FarmPlan → ScriptLine → List Entry → List JobSeen → List JobSeen → Result SaidSeen NoMemory → Type 0
+abbrev pub Answers : {D : Type 0} → (D → Outside StoreTold) → Bool → FarmSeen D → FarmPlan
+    → ScriptLine → List Entry → List JobSeen → List JobSeen → Result SaidSeen NoMemory → Type 0
 Answers state store_tells farm plan l before hand hand' (Ok said) =
-    (after : List Entry) × StandsFor state store_tells farm after × LineText plan l (tickets hand) before (tickets hand') after said.text × HandStands plan after hand'
+    (after : List Entry) × StandsFor state store_tells farm after × LineText plan l (tickets hand)
+    before (tickets hand') after said.text × HandStands plan after hand'
     × (has_failed after ≡ (said.failed || has_failed before))
-Answers state store_tells farm plan l before hand hand' (Err wanting) = (after : List Entry) × StandsFor state store_tells farm after × BrokeOff plan l before after
+Answers state store_tells farm plan l before hand hand' (Err wanting) =
+    (after : List Entry) × StandsFor state store_tells farm after × BrokeOff plan l before after

@@ -20,17 +20,21 @@ pub record IsOver (r : Region) (image : Pixels) : Type 0 where
   pub in_rows : r.row + r.rows ≤ image.rows
   pub raster : IsRaster image.cols image.rows (length image.pixels)
 
--- the picture now has the colour at the region's pixels whose bits are set, and is as it was at the start elsewhere
-pub record HasColour (r : Region) (colour : Colour) (bits : List Bool) (start now : Pixels) : Type 0 where
+-- the picture now has the colour at the region's pixels whose bits are set, and is as it was at the
+-- start elsewhere
+pub record HasColour (r : Region) (colour : Colour) (bits : List Bool)
+    (start now : Pixels) : Type 0 where
   pub cols : now.cols ≡ start.cols
   pub rows : now.rows ≡ start.rows
   pub count : length now.pixels ≡ length start.pixels
   pub on : (j i : ℕ) → j < r.rows → i < r.cols → slice_index_or bits (j * r.cols + i) false ≡ true
       → slice_index_or now.pixels ((r.row + j) * start.cols + (r.col + i)) colour ≡ colour
   pub off : (j i : ℕ) → j < r.rows → i < r.cols → slice_index_or bits (j * r.cols + i) false ≡ false
-      → slice_index_or now.pixels ((r.row + j) * start.cols + (r.col + i)) colour ≡ slice_index_or start.pixels ((r.row + j) * start.cols + (r.col + i)) colour
+      → slice_index_or now.pixels ((r.row + j) * start.cols + (r.col + i)) colour
+      ≡ slice_index_or start.pixels ((r.row + j) * start.cols + (r.col + i)) colour
   pub out : (j i : ℕ) → i < start.cols → (InRegion r i j → ⊥)
-      → slice_index_or now.pixels (j * start.cols + i) colour ≡ slice_index_or start.pixels (j * start.cols + i) colour
+      → slice_index_or now.pixels (j * start.cols + i) colour
+      ≡ slice_index_or start.pixels (j * start.cols + i) colour
 
 -- the brush now is the brush of the start, with the pixels painted whose bits are set
 pub record ShowsBits (start now : Brush) (bits : Bits) : Type 0 where

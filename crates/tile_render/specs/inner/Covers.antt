@@ -33,7 +33,8 @@ is_points (shape.Points points) = true
 is_points (shape.Lines lines) = false
 is_points (shape.Polygon rings) = false
 
--- the pixels are those whose centres the symbolizer covers on the shape; there are none where it covers no such shape
+-- the pixels are those whose centres the symbolizer covers on the shape; there are none where it
+-- covers no such shape
 abbrev pub Shows : Window → Geometry → Symbolizer → Option CoveredPixels → Type 0
 Shows w g s None = (c : Point) → covers w.pixel g c s ≡ false
 Shows w g s (Some (Pieces pieces)) = PiecesTell w (λ c. covers w.pixel g c s) pieces.items
@@ -49,13 +50,17 @@ abbrev pub Fits : Window → Region → CoveredPixels → Type 0
 Fits w r (Pieces pieces) = All (IsPiece r.cols r.rows) pieces.items
 Fits w r (Runs places) = RunsFit w r places.items
 
--- the runs between the crossings have the region's pixels with a member as their centre, and no other pixel of the window has one
-pub record Between (w : Window) (r : Region) (member : Point → Bool) (places : List ℕ) : Type 0 where
+-- the runs between the crossings have the region's pixels with a member as their centre, and no
+-- other pixel of the window has one
+pub record Between (w : Window) (r : Region) (member : Point → Bool)
+    (places : List ℕ) : Type 0 where
   pub crossings : Crossings (region_window w r) member places
   pub holds : Holds w r member
 
--- the pieces are the region's pixels with a member as their centre, and no other pixel of the window has one
-pub record Consists (w : Window) (r : Region) (member : Point → Bool) (pieces : List Piece) : Type 0 where
+-- the pieces are the region's pixels with a member as their centre, and no other pixel of the
+-- window has one
+pub record Consists (w : Window) (r : Region) (member : Point → Bool)
+    (pieces : List Piece) : Type 0 where
   pub tells : PiecesTell (region_window w r) member pieces
   pub holds : Holds w r member
 
@@ -72,5 +77,6 @@ pub record IsCover (w : Window) (f : Feature) (s : Symbolizer) (cover : Covered)
 
 -- there is none where no pixel is covered
 abbrev pub Covers : Window → Feature → Symbolizer → Option Covered → Type 0
-Covers w f s None = (j i : ℕ) → i < w.cols → j < w.rows → covers w.pixel f.geometry (centre w i j) s ≡ false
+Covers w f s None = (j i : ℕ) → i < w.cols → j < w.rows
+    → covers w.pixel f.geometry (centre w i j) s ≡ false
 Covers w f s (Some cover) = IsCover w f s cover

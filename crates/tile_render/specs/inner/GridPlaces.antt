@@ -6,7 +6,8 @@ use Rattle.plain_world.specs.declared.world.Window.{Window}
 use Rattle.plain_world.specs.World.{centre}
 use Rattle.plain_drawing.specs.Grids.{Grid}
 
--- the place of v among so many pixels from an edge on, and their number where it lies in none of them
+-- the place of v among so many pixels from an edge on, and their number where it lies in none of
+-- them
 unfoldable pub place_in : ℕ → ℕ → ℕ → ℕ → ℕ
 place_in edge pixel count v = if nat_le edge v then min ((v - edge) / pixel) count else count
 
@@ -23,7 +24,8 @@ pub record IsRun (places : List ℕ) (from end : ℕ) : Type 0 where
   pub within : end ≤ length places
   pub same : (k : ℕ) → from ≤ k → k < end → get_or places k 0 ≡ get_or places from 0
 
--- the columns of the grid under those of the window, and for each of these the end of a run of them that lie in one
+-- the columns of the grid under those of the window, and for each of these the end of a run of them
+-- that lie in one
 pub record IsColumns (w : Window) (g : Grid) (columns ends : List ℕ) : Type 0 where
   pub are : columns ≡ map (λ i. column_at g (centre w i 0)) (range_with_len 0 w.cols)
   pub long : length ends ≡ length columns

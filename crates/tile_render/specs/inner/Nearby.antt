@@ -16,7 +16,8 @@ pub record Nearby : Type 0 where
 
 -- what is kept of a layer, if all is, are its features near the rectangle, in order
 abbrev pub IsKept : List Layer → Bounds → NearLayer → Type 0
-IsKept layers around k = k.has_all ≡ true → map (λ f. f.now) k.features.items ≡ all_near (features_of layers k.name.now) around
+IsKept layers around k = k.has_all ≡ true
+    → map (λ f. f.now) k.features.items ≡ all_near (features_of layers k.name.now) around
 
 -- the source has the features of the layer of data of its name
 abbrev pub IsSource : List Layer → Source → Type 0

@@ -15,7 +15,8 @@ row_of p = p.place / 2 ^ 16
 abbrev pub start_of : Piece → ℕ
 start_of p = p.place % 2 ^ 16
 
--- the piece of a row from the column `start` on and before the column `end`; columns lie below 2 ^ 16
+-- the piece of a row from the column `start` on and before the column `end`; columns lie below 2 ^
+-- 16
 abbrev pub piece_at : ℕ → ℕ → ℕ → Piece
 piece_at row start end = record { place = row * 2 ^ 16 + start; end = end }
 
@@ -44,12 +45,15 @@ pub record IsBefore (p q : Piece) : Type 0 where
 
 -- the pieces are in order, and no two of them have a pixel in common
 pub record Apart (pieces : List Piece) : Type 0 where
-  pub at : (x y : ℕ) (d : Piece) → x < y → y < length pieces → IsBefore (slice_index_or pieces x d) (slice_index_or pieces y d)
+  pub at : (x y : ℕ) (d : Piece) → x < y → y < length pieces
+      → IsBefore (slice_index_or pieces x d) (slice_index_or pieces y d)
 
--- the pieces lie in so many rows of so many columns, and the bits say which of their pixels are covered
+-- the pieces lie in so many rows of so many columns, and the bits say which of their pixels are
+-- covered
 pub record ToldBits (cols rows : ℕ) (pieces : List Piece) (bits : List Bool) : Type 0 where
   pub inside : All (IsPiece cols rows) pieces
-  pub at : (j i : ℕ) → j < rows → i < cols → slice_index_or bits (j * cols + i) false ≡ covered pieces j i
+  pub at : (j i : ℕ) → j < rows → i < cols
+      → slice_index_or bits (j * cols + i) false ≡ covered pieces j i
 
 -- the bits are those of the pixels that are covered, unless memory was wanting
 pub record ShowsPieces (now : Pieces) (bits : Bits) : Type 0 where

@@ -30,7 +30,13 @@ pub record InRegion (r : Region) (i j : ℕ) : Type 0 where
 
 -- the region as a window of its own, whose centres are those of the window
 abbrev pub region_window : Window → Region → Window
-region_window w r = record { west = w.west + r.col * w.pixel; north = w.north + r.row * w.pixel; pixel = w.pixel; cols = r.cols; rows = r.rows }
+region_window w r = record {
+  west = w.west + r.col * w.pixel;
+  north = w.north + r.row * w.pixel;
+  pixel = w.pixel;
+  cols = r.cols;
+  rows = r.rows;
+}
 
 -- the region has every pixel of the window whose centre is a member
 pub record Holds (w : Window) (r : Region) (member : Point → Bool) : Type 0 where
@@ -40,9 +46,11 @@ pub record Holds (w : Window) (r : Region) (member : Point → Bool) : Type 0 wh
 abbrev pub HoldsCovered : Window → Region → Feature → Symbolizer → Type 0
 HoldsCovered w r f s = Holds w r (λ c. covers w.pixel f.geometry c s)
 
--- the bits say which of the region's pixels have a member as their centre, and no other pixel of the window has
+-- the bits say which of the region's pixels have a member as their centre, and no other pixel of
+-- the window has
 pub record Tells (w : Window) (r : Region) (member : Point → Bool) (bits : List Bool) : Type 0 where
-  pub at : (j i : ℕ) → j < r.rows → i < r.cols → slice_index_or bits (j * r.cols + i) false ≡ member (centre w (r.col + i) (r.row + j))
+  pub at : (j i : ℕ) → j < r.rows → i < r.cols
+      → slice_index_or bits (j * r.cols + i) false ≡ member (centre w (r.col + i) (r.row + j))
   pub holds : Holds w r member
 
 -- the colour painted over at a member, and as it was elsewhere
@@ -50,7 +58,8 @@ abbrev pub over_member : (Point → Bool) → Colour → ℕ → Point → Colou
 over_member member colour opacity c d = if member c then blend colour opacity d else d
 
 -- the picture now is that of the start with the first n pixels changed by their centres
-pub record Changed (f : Point → Colour → Colour) (w : Window) (n : ℕ) (start now : Pixels) : Type 0 where
+pub record Changed (f : Point → Colour → Colour) (w : Window) (n : ℕ)
+    (start now : Pixels) : Type 0 where
   pub is : now ≡ record start { pixels = at_centres f (take n (centres w)) start.pixels }
 
 -- the window's rectangle widened by 64 pixels on each side, and cut to the world

@@ -7,7 +7,8 @@ use Rattle.plain_image.specs.PpmText.{colours}
 -- the tiles of so many texts, one behind another, each of so many bytes before so many pixels
 unfoldable pub tiles_in : ℕ → ℕ → ℕ → List ℕ → List (List Colour)
 tiles_in head pixels zero bytes = []
-tiles_in head pixels (suc n) bytes = colours (take (pixels * 3) (drop head bytes)) ∷ tiles_in head pixels n (drop (pixels * 3) (drop head bytes))
+tiles_in head pixels (suc n) bytes = colours (take (pixels * 3) (drop head bytes))
+    ∷ tiles_in head pixels n (drop (pixels * 3) (drop head bytes))
 
 -- behind so many bytes stand the texts of so many tiles, and nothing else
 pub record AreTexts (before side count head : ℕ) (bytes : List ℕ) : Type 0 where
@@ -18,4 +19,5 @@ pub record AreTexts (before side count head : ℕ) (bytes : List ℕ) : Type 0 w
   pub before_fits : before ≤ length bytes
   pub head_is : head ≡ length (ppm side side [])
   pub pixels : length bytes ≡ before + count * (head + side * side * 3)
-  pub kept : drop before bytes ≡ flat_map (ppm side side) (tiles_in head (side * side) count (drop before bytes))
+  pub kept : drop before bytes
+      ≡ flat_map (ppm side side) (tiles_in head (side * side) count (drop before bytes))
