@@ -1,6 +1,6 @@
 -- Bits that stand for cells, and why cells that share no bit hold no common point.
-use Rattle.std.proofs.Common.{◌≡◌, ℕ, zero, suc, suc-mul, get_or, ◌+◌, ◌-◌, ◌*◌, ◌/◌, ◌%◌, ◌^◌, ◌<◌, ◌≤◌, refl, sym, ap, ◌∙◌, subst, inl, inr, arith}
-use Rattle.std.specs.Prelude.{Bool, true, false, ◌||◌, nat_lt, min, max, List, [], ◌∷◌, length, take, set, All}
+use Rattle.std.proofs.Common.{◌≡◌, ℕ, zero, get_or, ◌+◌, ◌-◌, ◌*◌, ◌/◌, ◌%◌, ◌^◌, ◌<◌, ◌≤◌, sym, ap, ◌∙◌, subst, inl, inr, arith}
+use Rattle.std.specs.Prelude.{true, false, ◌||◌, nat_lt, min, max, List, [], ◌∷◌, length, take, set, All}
 use Rattle.std.specs.List.{AllByRecursion, list_any}
 use Rattle.std.proofs.lemmas.Bool.Decides.{nat_tests}
 use Rattle.std.proofs.lemmas.List.{get_or-set_same, get_or-set_other}
@@ -8,11 +8,10 @@ use Rattle.std.proofs.lemmas.List.Elements.{All-more, All-weaker, recursion_from
 use Rattle.std.specs.Int.{bit_at, w64}
 use Rattle.std.specs.Int.RustNames.{bit_or}
 use lib.Bits.{bit_and}
-use Rattle.std.proofs.lemmas.Bool.{cases_eq}
+use Rattle.std.proofs.lemmas.Bool.{cases_eq, false_from_ne_true}
 use Rattle.plain_world.specs.declared.world.Point.{Point}
 use Rattle.geo_model.specs.declared.bounds.Bounds.{Bounds}
 use Rattle.plain_shapes.specs.declared.shapes.Geometry.{Geometry}
-use Rattle.plain_shapes.specs.declared.shapes.Geometry.TheVariants.{Points, Lines, Polygon}
 use Rattle.plain_shapes.specs.Features.{Feature}
 use Rattle.geo_model.specs.Bounds.{InBounds, Within, IsLeastBounds, meets}
 use Rattle.geo_model.specs.Shapes.{parts_of, least_points, is_none, IsShape}
@@ -21,9 +20,10 @@ use Rattle.data_versions.specs.declared.cells.CellBlock.{CellBlock}
 use Rattle.data_versions.specs.inner.Cells.{scale_of, part_of, row_of, column_of, Marks, HasCells, IsWide, box_of, IsMarked, IsPlaced}
 use Rattle.data_versions.specs.declared.extent.Extent.{Extent}
 use Rattle.data_versions.specs.inner.Extents.{IsIn}
-use Rattle.std.proofs.Math.Nat.{div-mul-le_self, mul-div-le, mul-le-mul_right}
+use Rattle.std.proofs.Math.Nat.{div-mul-le_self, mul-le-mul_right}
 use Rattle.std.proofs.lemmas.Nat.{le-div}
 use Rattle.std.proofs.lemmas.Nat.Bits.{bit_at_or, bit_at_and, bit_at-lt, bit_at-zero, bit_at_set_same}
+use Rattle.geo_model.proofs.Boxes.{fewest_some}
 
 -- a bit that is set stays set
 pub or_left : (a b k : ℕ) → bit_at a k ≡ 1 → bit_at (bit_or a b) k ≡ 1
@@ -77,17 +77,6 @@ quotient_grows m n k some h = le-div (m / k) n k some (omega (arith, div-mul-le_
 part_grows : (low high x y : ℕ) → x ≤ y → part_of low high x ≤ part_of low high y
 part_grows low high x y h = quotient_grows ((x - low) * scale_of low high) ((y - low) * scale_of low high) 68719476736 (omega arith) (mul-le-mul_right (scale_of low high) (omega arith))
 
--- the steps within a way take fewer shares than the whole of it
-pub shares_within : (low high x scale : ℕ) → x ≤ high → scale ≡ scale_of low high → (x - low) * scale < 4398046511104
-shares_within low high x scale within is =
-    let whole : (high - low + 1) * scale_of low high ≤ 4398046511104 = mul-div-le 4398046511104 (high - low + 1) in
-    let more : suc (x - low) * scale_of low high ≤ (high - low + 1) * scale_of low high = mul-le-mul_right (scale_of low high) (omega arith) in
-    rw is (below (x - low) (scale_of low high) (omega (arith, suc-mul (x - low) (scale_of low high), whole, more)))
-  where
-    below : (steps scale : ℕ) → steps * scale + scale ≤ 4398046511104 → steps * scale < 4398046511104
-    below steps zero h = let none : steps * 0 ≡ 0 = omega arith in omega (arith, none)
-    below steps (suc scale) h = omega (arith, h)
-
 -- the cells of all columns and rows between those of the part's corners mark it
 pub marks_from : (box part : Bounds) (block : CellBlock) (west east north south first last : ℕ) → west ≡ max box.west part.west → east ≡ min box.east part.east
     → north ≡ max box.north part.north → south ≡ min box.south part.south → first ≡ part_of box.west box.east west → last ≡ part_of box.west box.east east
@@ -130,16 +119,12 @@ common_point box a b cells block wide_a wide_b within has_a marks_b none h1 h2 h
 tested : (a b : Bounds) → meets a b ≡ true → (a.west ≤ b.east) × (b.west ≤ a.east) × (a.north ≤ b.south) × (b.north ≤ a.south)
 tested a b h = (grind (arith, nat_tests), grind (arith, nat_tests), grind (arith, nat_tests), grind (arith, nat_tests))
 
-untrue : (b : Bool) → (b ≡ true → ⊥) → b ≡ false
-untrue true h = absurd (h refl)
-untrue false h = refl
-
 -- where the features' cells and the rectangle's share no bit, no feature is near
 pub none_near : (extent : Extent) (box around : Bounds) (cells : List ℕ) (block : CellBlock) (features : List Feature) → All (IsIn extent) features
     → box ≡ extent.bounds → IsPlaced box cells features → IsWide around → Marks box around block
     → ((k : ℕ) → block.top ≤ k → k ≤ block.bottom → bit_and (get_or cells k 0) block.columns ≡ 0) → All (λ f. is_near around f ≡ false) features
 none_near extent box around cells block features inside same placed wide marks none = λ k d small.
-    untrue (is_near around (get_or features k d)) (λ near.
+    false_from_ne_true (is_near around (get_or features k d)) (λ near.
     let here : IsIn extent (get_or features k d) = inside k d small in
     let within : Within (box_of (get_or features k d)) box = subst (λ (b : Bounds). Within (box_of (get_or features k d)) b) (sym same) here.within in
     let facts = tested (box_of (get_or features k d)) around near in
@@ -161,11 +146,6 @@ marked_more features n f box old new block small at each marks kept added =
     All-more (IsMarked box new) features n f small (All-weaker (IsMarked box old) (IsMarked box new) later (take n features) each) (subst (λ (g : Feature). IsMarked box new g) at here)
 
 -- ---- the box of a shape holds a point
-
-fewest_some : (g : Geometry) → 1 ≤ least_points g
-fewest_some (Points points) = omega arith
-fewest_some (Lines lines) = omega arith
-fewest_some (Polygon rings) = omega arith
 
 wide_parts : (parts : List (List Point)) (fewest : ℕ) (b : Bounds) → 1 ≤ fewest → (is_none parts || list_any (λ part. nat_lt (length part) fewest) parts) ≡ false
     → AllByRecursion (All (InBounds b)) parts → IsWide b

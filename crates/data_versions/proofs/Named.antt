@@ -2,21 +2,21 @@
 use Rattle.std.proofs.Common.{◌≡◌, ℕ, zero, suc, ◌+◌, ◌≤◌, ◌<◌, List, [], ◌∷◌, length, get_or, set, take, drop, drop-cons, add-one, refl, sym, ap, subst, arith}
 use Rattle.std.specs.Prelude.{Bool, true, false, cond, nat_lt, position, All, Some, None, option_map, Ok, Err}
 use Rattle.std.specs.Str.{bytes_eq}
-use Rattle.std.specs.List.{AllByRecursion, IsDistinct, position_or_len}
-use Rattle.std.proofs.lemmas.Bool.Decides.{nat_tests}
-use Rattle.std.proofs.lemmas.List.Elements.{recursion_from_All, All-from_recursion, All-more}
+use Rattle.std.specs.List.{AllByRecursion, position_or_len}
+use Rattle.std.proofs.lemmas.List.Elements.{recursion_from_All, All-more}
 use Rattle.std.specs.declared.alloc.Global.{Global}
 use Rattle.std.specs.declared.sync.Arc.{Arc}
 use Rattle.std.specs.Arc.{arc_value}
 use Rattle.data_versions.specs.Shared.{shared_layers}
 use Rattle.plain_shapes.specs.Features.{Layer}
-use Rattle.plain_shapes.specs.Data.{Change, is_name, IsLayer, IsDataset, IsChange, IsUpdate, names_of, layer_named, features_named, changed_layer, layers_after, change_fault, changed_from}
+use Rattle.plain_shapes.specs.Data.{Change, IsLayer, IsDataset, names_of, layer_named, features_named, changed_layer, layers_after, change_fault, changed_from}
 use Rattle.farm_base.specs.declared.faults.ApplyFault.{ApplyFault}
 use Rattle.std.proofs.lemmas.List.{length-map, drop_all}
 use Rattle.std.proofs.lemmas.List.Quantifiers.{position-Some}
 use Rattle.std.proofs.lemmas.List.Folds.{find_at}
 use Rattle.std.proofs.lemmas.Option.{slice_get_past}
 use Rattle.std.proofs.lemmas.Bool.{ltb-false}
+use Rattle.farm_base.proofs.Outcomes.{none_past}
 
 -- ---- the layer of a name by its place
 
@@ -45,10 +45,6 @@ pub changed_place : (layers : List Layer) (i : ℕ) (d : Layer) (c : Change) →
 changed_place layers i d c at =
     let facts = position-Some (λ (l : Layer). bytes_eq l.name c.layer) layers i d at in
     changed_at layers i d c facts.0 facts.1 facts.2
-
-none_past : (b : Bool) (n : ℕ) → cond b (Some n) None ≡ None → b ≡ false
-none_past true n h = cc
-none_past false n h = refl
 
 pub unnamed : (layers : List Layer) (name : List ℕ) → position (λ l. bytes_eq l.name name) layers ≡ None → features_named layers name ≡ None
 unnamed layers name none =
@@ -107,29 +103,3 @@ shared_valid shares i share small each at = by_place shares i share small (recur
 pub layers_more : (layers : List Layer) (i : ℕ) (l : Layer) → i < length layers → l ≡ get_or layers i l → All IsLayer (take i layers) → IsLayer l
     → All IsLayer (take (i + 1) layers)
 layers_more layers i l small at each here = All-more IsLayer layers i l small each (subst (λ (m : Layer). IsLayer m) at here)
-
--- ---- small data and updates
-
--- one layer
-pub lone_layer : (layers : List Layer) (l : Layer) → layers ≡ l ∷ [] → IsLayer l → IsDataset layers
-unfolding IsDistinct
-lone_layer layers l e valid = subst (λ (ls : List Layer). IsDataset ls) (sym e) (record {
-  few = omega arith;
-  each = All-from_recursion IsLayer (l ∷ []) (valid, tt);
-  distinct = (tt, tt);
-})
-
-pub short_name : (name : List ℕ) → 1 ≤ length name → length name ≤ 64 → is_name name ≡ true
-short_name name some short = grind (arith, nat_tests)
-
--- a layer without features
-pub bare_layer : (l : Layer) → l.features ≡ [] → 1 ≤ length l.name → length l.name ≤ 64 → IsLayer l
-unfolding IsDistinct
-bare_layer l none some short = record { named = short_name l.name some short; few = rw none (omega arith); distinct = rw none tt }
-
--- one change
-pub lone_change : (changes : List Change) (c : Change) → changes ≡ c ∷ [] → IsChange c → IsUpdate changes
-lone_change changes c e valid = subst (λ (cs : List Change). IsUpdate cs) (sym e) (record {
-  few = omega arith;
-  each = All-from_recursion IsChange (c ∷ []) (valid, tt);
-})

@@ -107,9 +107,6 @@ none_put put features count i is none = stands_at put features count i is ∙ ap
 
 -- ---- something more is put
 
-same_slot : (k q : ℕ) → is_at (nat_cmp k) q ≡ nat_eq k q
-same_slot k q = grind (arith, nat_tests)
-
 other_slot : (a b : ℕ) → (a ≡ b → ⊥) → is_at (nat_cmp a) b ≡ false
 other_slot a b h = grind (arith, nat_tests)
 

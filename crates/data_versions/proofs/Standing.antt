@@ -1,11 +1,11 @@
 -- What a removal and a put do to the slots of a layer, and to the places of its ids.
 use Rattle.std.proofs.Common.{◌≡◌, ℕ, zero, suc, ◌+◌, ◌<◌, List, [], ◌∷◌, ◌++◌, length, get_or, set, refl, sym, ◌∙◌, ap, subst, inl, inr, length-append, arith}
-use Rattle.std.specs.Prelude.{◌⊎◌, Bool, true, false, ◌||◌, nat_eq, Option, Some, None}
+use Rattle.std.specs.Prelude.{◌⊎◌, true, false, ◌||◌, nat_eq, Option, Some, None}
 use Rattle.std.specs.Ordering.{nat_cmp}
 use Rattle.std.specs.BTreeMap.{BTreeMap, get, Updates, is_at}
 use Rattle.std.specs.Map.{lookup}
 use Rattle.std.specs.List.{AllByRecursion, IsDistinct}
-use Rattle.std.proofs.lemmas.Bool.{cases_eq, eq-eqb}
+use Rattle.std.proofs.lemmas.Bool.{cases_eq, eq-eqb, or_right}
 use Rattle.std.proofs.lemmas.Bool.Decides.{nat_tests}
 use Rattle.std.proofs.lemmas.List.{length-map, get_or-set_same, get_or-set_other}
 use Rattle.std.proofs.lemmas.List.Elements.{filter_map-append}
@@ -13,10 +13,6 @@ use Rattle.plain_shapes.specs.Features.{Feature}
 use Rattle.plain_shapes.specs.Data.{has_id, ids_of}
 use Rattle.geo_model.proofs.Boxes.{no_left, no_right}
 use Rattle.data_versions.specs.inner.Slots.{standing, slot_id, KnowsPlaces, StandsNowhere, without, replaced_by, with_put}
-
-or_true : (a b : Bool) → b ≡ true → (a || b) ≡ true
-or_true true b h = refl
-or_true false b h = h
 
 apart : (a b : ℕ) → (a ≡ b → ⊥) → nat_eq a b ≡ false
 apart a b h = grind (arith, nat_tests)
@@ -68,7 +64,7 @@ one_has (None ∷ slots) id (suc k) here = one_has slots id k here
 one_has (Some f ∷ slots) id zero here =
     let same : nat_eq id f.id ≡ true = eq-eqb id f.id (sym (some_same f.id id here)) in
     rw same refl
-one_has (Some f ∷ slots) id (suc k) here = or_true (nat_eq id f.id) (has_id (ids_of (standing slots)) id) (one_has slots id k here)
+one_has (Some f ∷ slots) id (suc k) here = or_right (nat_eq id f.id) (has_id (ids_of (standing slots)) id) (one_has slots id k here)
 
 standing_removed : (slots : List (Option Feature)) (id k : ℕ) → slot_id (get_or slots k None) ≡ Some id
     → ((j : ℕ) → slot_id (get_or slots j None) ≡ Some id → j ≡ k) → standing (set slots k None) ≡ without id (standing slots)

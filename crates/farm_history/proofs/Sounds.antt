@@ -61,7 +61,7 @@ pub record IsDrawn (h : List Entry) (k : Key) (before : List Entry) : Type 0 whe
   pub is_claim : h ≡ since ++ Claim worker (Job ticket k (version before)) ∷ before
   pub is_stored : is_stored_in since ticket ≡ true
 
-stored_more : (e : Entry) (since : List Entry) (t : ℕ) → is_stored_in since t ≡ true → is_stored_in (e ∷ since) t ≡ true
+pub stored_more : (e : Entry) (since : List Entry) (t : ℕ) → is_stored_in since t ≡ true → is_stored_in (e ∷ since) t ≡ true
 unfolding is_stored_in
 stored_more (Finish t' drawn (Stored clean)) since t h = grind arith
 stored_more (Finish t' drawn _) since t h = h

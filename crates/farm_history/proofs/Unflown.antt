@@ -1,6 +1,7 @@
 -- What a replay leaves behind: no drawing is under way, each ask is of the replay's own front, and it has four entries a kept key and one an update and a style at most.
 use Rattle.std.proofs.Common.{◌≡◌, ℕ, suc, ◌+◌, ◌*◌, ◌≤◌, Bool, true, false, not, cond, ◌==◌, nat_lt, List, [], ◌∷◌, length, count_by, Option, Some, None, refl, sym, ap, ◌∙◌, arith}
 use Rattle.std.proofs.lemmas.Bool.Decides.{nat_tests}
+use Rattle.std.proofs.lemmas.List.Sums.{count_by-le-length}
 use Rattle.farm_history.specs.declared.keys.Key.{Key}
 use Rattle.farm_history.specs.declared.keys.Kept.{Kept}
 use Rattle.farm_history.specs.declared.saved.Past.{Past}
@@ -109,14 +110,6 @@ unfolding replay_from
 long_from p kept v [] g = omega (arith, long_keys v kept g, by_version v kept)
 long_from p kept v (c ∷ cs) g = omega (arith, long_from p kept (v + 1) cs (replay_change p c (replay_keys v kept g)), long_change p c (replay_keys v kept g), long_keys v kept g, by_version v kept)
 
-count_few : {X : Type 0} (q : X → Bool) (xs : List X) → count_by q xs ≤ length xs
-count_few q [] = omega arith
-count_few q (x ∷ xs) = go (q x) (count-cons q x xs) (count_few q xs)
-  where
-    go : (b : Bool) → count_by q (x ∷ xs) ≡ cond b 1 0 + count_by q xs → count_by q xs ≤ length xs → count_by q (x ∷ xs) ≤ suc (length xs)
-    go true is few = omega (arith, is, few)
-    go false is few = omega (arith, is, few)
-
 -- a replay has at most four entries a kept key, and one an update and a style
 pub replay_length : (p : Plan) (s : Saving) → length (replay p s) ≤ length s.styles + (length s.updates + 4 * length s.clean)
-replay_length p s = omega (arith, long_from p s.clean 0 s.updates (replay_styles s.styles []), long_styles s.styles [], count_few (from_version 0) s.clean)
+replay_length p s = omega (arith, long_from p s.clean 0 s.updates (replay_styles s.styles []), long_styles s.styles [], count_by-le-length (from_version 0) s.clean)

@@ -1,6 +1,7 @@
 -- Each legal history keeps the promise.
 use Rattle.std.proofs.Common.{◌≡◌, ℕ, ◌<◌, ◌≤◌, Bool, true, false, ◌&&◌, ◌||◌, ◌==◌, nat_lt, List, [], ◌∷◌, ◌++◌, length, slice_get, Option, Some, None, refl, sym, ap, ap₂, ◌∙◌, subst, arith}
 use Rattle.std.proofs.lemmas.Bool.Decides.{nat_tests}
+use Rattle.std.proofs.lemmas.Bool.{ltb-true}
 use Rattle.farm_history.specs.Lists.{Each}
 use Rattle.farm_history.specs.declared.keys.Key.{Key}
 use Rattle.farm_history.specs.declared.queues.Conn.{Conn}
@@ -18,7 +19,7 @@ use Rattle.farm_history.specs.Rules.{Fits, Legal}
 use Rattle.farm_history.specs.Laws.{is_stored_in, is_stored_after, is_claimed_after, is_redrawn_after, StaysDirty as StaysDirtyAt, IsStoredFor, DoneAt, DoneReply}
 use Rattle.farm_history.proofs.Lists.{same_key-true, find-passes, each-find}
 use Rattle.farm_history.proofs.Since.{clean_since}
-use Rattle.farm_history.proofs.Sounds.{IsClaimed, flights_claimed, legal_before, sent_clean, shown_drawn, sound}
+use Rattle.farm_history.proofs.Sounds.{IsClaimed, flights_claimed, legal_before, sent_clean, shown_drawn, sound, stored_more}
 use Rattle.farm_plan.specs.Plans.{MapPlan, FarmPlan, IsPlan}
 use Rattle.farm_plan.specs.Drawings.{tile_in, data_of, plan_of}
 use Rattle.farm_plan.proofs.Spots.{spot_of}
@@ -49,12 +50,6 @@ two_parts (x ∷ after) between g = ap (λ y. x ∷ y) (two_parts after between 
 
 -- ---- drawings
 
-stored_more : (e : Entry) (since : List Entry) (t : ℕ) → is_stored_in since t ≡ true → is_stored_in (e ∷ since) t ≡ true
-unfolding is_stored_in
-stored_more (Finish t' drawn (Stored clean)) since t h = grind arith
-stored_more (Finish t' drawn _) since t h = h
-stored_more _ since t h = h
-
 abbrev one_more : (e : Entry) (g : List Entry) (k : Key) → Drawing g k → Drawing (e ∷ g) k
 one_more e g k d = record { since = e ∷ d.since; worker = d.worker; ticket = d.ticket; of_version = d.of_version; before = d.before; is_in = ap (λ x. e ∷ x) d.is_in }
 
@@ -82,9 +77,6 @@ record IsRedrawn (h : List Entry) (place : ℕ) (k : Key) : Type 0 where
 redrawn_more : (e : Entry) (g : List Entry) (place : ℕ) (k : Key) → IsRedrawn g place k → IsRedrawn (e ∷ g) place k
 redrawn_more e g place k r = record { drawing = one_more e g k r.drawing; behind = r.behind; stored = stored_more e r.drawing.since r.drawing.ticket r.stored }
 
-under : (a b : ℕ) → nat_lt a b ≡ true → a < b
-under a b h = grind (arith, nat_tests)
-
 redrawn_by : (t : ℕ) (drawn clean : Bool) (g : List Entry) (place : ℕ) (k : Key) (o : Option Flight) → flight_in (flights g) t ≡ o → Each (IsClaimed g) (flights g) → (is_redrawn_after g place k ≡ true → IsRedrawn g place k)
     → (is_claimed_after o place k || is_redrawn_after g place k) ≡ true → IsRedrawn (Finish t drawn (Stored clean) ∷ g) place k
 redrawn_by t drawn clean g place k None is claims old any = redrawn_more (Finish t drawn (Stored clean)) g place k (old any)
@@ -99,7 +91,7 @@ redrawn_by t drawn clean g place k (Some f) is claims old any = go (same_key f.k
     go : (b : Bool) → same_key f.key k ≡ b → (c : Bool) → nat_lt place (length f.before) ≡ c → ((b && c) || is_redrawn_after g place k) ≡ true → IsRedrawn (e ∷ g) place k
     go true same true lt any =
         subst (λ (x : Key). IsRedrawn (e ∷ g) place x) (same_key-true f.key k same)
-        (record { drawing = of_flight e g f claimed; behind = under place (length f.before) lt; stored = stored_now t drawn clean g claimed.since f is })
+        (record { drawing = of_flight e g f claimed; behind = ltb-true place (length f.before) lt; stored = stored_now t drawn clean g claimed.since f is })
     go true same false lt any = redrawn_more e g place k (old any)
     go false other c lt any = redrawn_more e g place k (old any)
 

@@ -1,31 +1,25 @@
 -- Claims, and the jobs that they give.
-use Rattle.std.proofs.Common.{◌≡◌, ℕ, ◌<◌, Bool, true, false, cond, ◌==◌, List, [], ◌∷◌, ◌++◌, length, find, slice_get, Some, None, option_map, refl, sym, ap, ap₂, ◌∙◌, subst, arith}
+use Rattle.std.proofs.Common.{◌≡◌, ℕ, ◌<◌, Bool, true, false, cond, ◌==◌, List, [], ◌∷◌, ◌++◌, length, find, Some, None, option_map, refl, sym, ap, ap₂, ◌∙◌, subst, arith}
 use Rattle.std.proofs.lemmas.Bool.Decides.{nat_tests}
 use Rattle.std.proofs.lemmas.List.{length-map}
-use Rattle.std.proofs.lemmas.Option.{slice_get_within}
 use Rattle.farm_base.specs.Outside.{Outside}
 use Rattle.tile_store.specs.Stores.{StoreTold}
-use Rattle.farm_history.specs.declared.keys.Key.{Key}
 use Rattle.farm_history.specs.declared.answers.ClaimAnswer.{ClaimAnswer}
 use Rattle.farm_history.specs.declared.answers.ClaimAnswer.TheVariants.{Job, Crowded}
 use Rattle.farm_history.specs.Entries.{Entry, Claim}
 use Rattle.farm_history.specs.Plans.{Plan, Waits}
-use Rattle.farm_history.specs.Past.{Flight, data_after, style_after, flights, flight_in, jobs, shown, waiting}
+use Rattle.farm_history.specs.Past.{Flight, data_after, style_after, flights, flight_in, jobs, shown}
 use Rattle.farm_history.specs.Rules.{job_of, claim_rule, Fits, Legal}
 use Rattle.farm_history.specs.Laws.{flight_key}
 use Rattle.farm_history.specs.Seen.{Taken, taken_of}
 use Rattle.farm_history.specs.Replays.{changes_after}
 use Rattle.farm_history.proofs.Lists.{each-map, each-none, find-none}
 use Rattle.farm_history.proofs.Apart.{kept}
-use Rattle.farm_history.proofs.Keyed.{OnServed, are_served}
-use Rattle.farm_history.proofs.Queued.{next_found}
 use Rattle.farm_history.proofs.Marks.{mark_quiet, taken_claim}
 use Rattle.farm_history.proofs.Numbers.{tickets_below}
 use Rattle.farm_history.proofs.Flying.{find-map, ends_ticket, still_flies, data_before}
 use Rattle.farm_plan.specs.Plans.{FarmPlan}
 use Rattle.farm_plan.specs.Drawings.{plan_of, data_of}
-use Rattle.farm_plan.specs.Spots.{IsKeyOf}
-use Rattle.farm_plan.proofs.Spots.{served_key}
 use Rattle.render_queues.specs.Tables.{next_of, after_take}
 use Rattle.farm_refinement.specs.Seen.{FarmSeen}
 use Rattle.farm_refinement.specs.Stands.{failures, QueuesStand, StandsFor}
@@ -81,25 +75,6 @@ claim_job_step state told farm g worker w first is s = record {
 
     e : Entry
     e = Claim worker (Job farm.counts.jobs w.key farm.counts.version)
-
--- what the job carries
-pub job_carries : {D : Type 0} (state : D → Outside StoreTold) (told : Bool) (farm : FarmSeen D) (g : List Entry) (job : JobSeen) (w : Waits) → next_of farm.queues.lines ≡ Some w → w.key ≡ job_key job → job.plan ≡ farm.plan → job.version ≡ farm.counts.version → job.data_now ≡ farm.data_now →
-    slice_get farm.styled job.map ≡ Some job.styled → StandsFor state told farm g → Carries farm.plan g job
-job_carries state told farm g job w first key_is plan_is version_is data_is style_is s = record {
-  plan_is = plan_is;
-  style_is = go (sym style_is ∙ s.styles_are job.map in_table);
-  data_is = data_is ∙ s.data_is;
-  version_is = version_is ∙ s.counts_are.version_is;
-}
-  where
-    of_plan : IsKeyOf farm.plan w.key
-    of_plan = served_key farm.plan w.key s.valid (next_found (OnServed (plan_of farm.plan)) (waiting (plan_of farm.plan) g) w (are_served (plan_of farm.plan) told g s.legal).rests (sym (next_at farm.plan farm.queues g s.queues_are) ∙ first))
-
-    in_table : job.map < length farm.plan.maps
-    in_table = slice_get_within farm.plan.maps job.map of_plan.map (sym (ap (λ (k : Key). slice_get farm.plan.maps k.map) key_is) ∙ of_plan.is_map)
-
-    go : Some job.styled ≡ Some (style_after (plan_of farm.plan) g job.map) → job.styled ≡ style_after (plan_of farm.plan) g job.map
-    go h = cc
 
 -- it is a drawing under way after its Claim
 pub job_flies : (plan : FarmPlan) (told : Bool) (g : List Entry) (worker : ℕ) (job : JobSeen) → Legal (plan_of plan) told g → job.ticket ≡ jobs g → Carries plan g job → IsFlight plan (Claim worker (Job job.ticket (job_key job) job.version) ∷ g) job

@@ -81,7 +81,7 @@ starts_with ([] ∷ parts) fewest other some enough world holds = absurd (grind 
 starts_with ((p ∷ path) ∷ parts) fewest other some enough world holds =
     starts_within p other ((recursion_from_All InWorld (p ∷ path) world.0).0) ((recursion_from_All (InBounds other) (p ∷ path) holds.0).0)
 
-fewest_some : (g : Geometry) → 1 ≤ least_points g
+pub fewest_some : (g : Geometry) → 1 ≤ least_points g
 fewest_some (Points points) = omega arith
 fewest_some (Lines lines) = omega arith
 fewest_some (Polygon rings) = omega arith

@@ -8,6 +8,7 @@ use Rattle.std.proofs.lemmas.Str.Pattern.{IsSplitOnceResult, split_once_first}
 use Rattle.std.proofs.lemmas.List.Splits.{slice_split_first, length-slice_split}
 use Rattle.std.proofs.lemmas.List.{take_all, drop_all, length-drop}
 use Rattle.std.proofs.lemmas.Bool.Decides.{nat_tests}
+use Rattle.std.proofs.lemmas.Option.{cond_some}
 use Rattle.line_reading.specs.Cuts.{cut_at}
 
 cut_none : (byte : ℕ) (text : List ℕ) → position_or_len (λ b. eqb b byte) text ≡ length text → None ≡ cut_at byte text
@@ -64,10 +65,6 @@ lines_one (b ∷ bytes) some h =
 abbrev pub place : List ℕ → Option ℕ
 place bytes = cond (ltb (position_or_len (λ b. eqb b 10) bytes) (length bytes)) (Some (position_or_len (λ b. eqb b 10) bytes)) None
 
-some_at : (t : Bool) (n end : ℕ) → cond t (Some n) None ≡ Some end → (t ≡ true) × (n ≡ end)
-some_at true n end e = (refl, (cc))
-some_at false n end e = cc
-
 none_at : (t : Bool) (n : ℕ) → cond t (Some n) None ≡ None → t ≡ false
 none_at true n e = cc
 none_at false n e = refl
@@ -75,7 +72,7 @@ none_at false n e = refl
 -- where the place of the newline is found, and where there is none
 pub found_at : (bytes : List ℕ) (end : ℕ) → place bytes ≡ Some end → (position_or_len (λ b. eqb b 10) bytes ≡ end) × (end < length bytes)
 found_at bytes end e =
-    let p = some_at (ltb (position_or_len (λ b. eqb b 10) bytes) (length bytes)) (position_or_len (λ b. eqb b 10) bytes) end e in
+    let p = cond_some (ltb (position_or_len (λ b. eqb b 10) bytes) (length bytes)) (position_or_len (λ b. eqb b 10) bytes) end e in
     let below : ltb (position_or_len (λ b. eqb b 10) bytes) (length bytes) ≡ true = p.0 in
     let at : position_or_len (λ b. eqb b 10) bytes ≡ end = p.1 in
     (at, grind (arith, nat_tests))

@@ -128,12 +128,12 @@ tile_cut style size m data_layers w col row image sized z h k window_is image_is
     ∙ ap (map f) (centres_cut (window_of (tile_at m col row) size) (meta_window_of m size) (col * size) (row * size) p))
 
 -- functions that agree on a range make the same of it
-map_range : {Y : Type 0} (f g : ℕ → Y) (a n : ℕ) → ((k : ℕ) → k < a + n → f k ≡ g k) → map f (range_with_len a n) ≡ map g (range_with_len a n)
+pub map_range : {Y : Type 0} (f g : ℕ → Y) (a n : ℕ) → ((k : ℕ) → k < a + n → f k ≡ g k) → map f (range_with_len a n) ≡ map g (range_with_len a n)
 map_range f g a zero same = refl
 map_range f g a (suc n) same =
     ap (λ y. y ∷ map f (range_with_len (a + 1) n)) (same a (omega arith)) ∙ ap (λ ys. g a ∷ ys) (map_range f g (a + 1) n (λ k h. same k (omega arith)))
 
-flat_range : {Y : Type 0} (f g : ℕ → List Y) (a n : ℕ) → ((k : ℕ) → k < a + n → f k ≡ g k) → flat_map f (range_with_len a n) ≡ flat_map g (range_with_len a n)
+pub flat_range : {Y : Type 0} (f g : ℕ → List Y) (a n : ℕ) → ((k : ℕ) → k < a + n → f k ≡ g k) → flat_map f (range_with_len a n) ≡ flat_map g (range_with_len a n)
 flat_range f g a zero same = refl
 flat_range f g a (suc n) same =
     ap (λ y. y ++ flat_map f (range_with_len (a + 1) n)) (same a (omega arith)) ∙ ap (λ ys. g a ++ ys) (flat_range f g (a + 1) n (λ k h. same k (omega arith)))

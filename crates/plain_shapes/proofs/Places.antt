@@ -7,6 +7,7 @@ use Rattle.std.proofs.lemmas.Nat.{row_fits}
 use Rattle.std.proofs.lemmas.List.{get_or_append_left, get_or-append-add, take_all}
 use Rattle.std.proofs.lemmas.List.Folds.{list_any_more}
 use Rattle.std.proofs.lemmas.List.FromFn.{get_or-map-range_with_len, length-map-range_with_len}
+use Rattle.std.proofs.Math.Bool.{or_assoc, or-false}
 use Rattle.plain_world.specs.declared.world.Point.{Point}
 use Rattle.plain_world.specs.declared.world.Window.{Window}
 use Rattle.plain_world.specs.World.{centre, row_centres, centres}
@@ -51,10 +52,6 @@ get_or-centres w j i d p q =
     ∙ get_or-map-range_with_len (λ k. centre w k (0 + j)) 0 w.cols i i d p (omega arith)
     ∙ ap (λ k. centre w i k) (let e : 0 + j ≡ j = omega arith in e)
 
-or_false : (b : Bool) → (b || false) ≡ b
-or_false true = refl
-or_false false = refl
-
 or_true : (b : Bool) → (b || true) ≡ true
 or_true true = refl
 or_true false = refl
@@ -74,7 +71,7 @@ marked_suc_no : (m : Point → Bool) (cs : List Point) (bs : List Bool) (n : ℕ
 marked_suc_no m [] bs n d lt h = absurd (omega arith)
 marked_suc_no m (c ∷ cs) [] zero d lt h = refl
 marked_suc_no m (c ∷ cs) [] (suc n) d lt h = refl
-marked_suc_no m (c ∷ cs) (b ∷ bs) zero d lt h = ap (λ v. v ∷ bs) (ap (λ v. b || v) h ∙ or_false b)
+marked_suc_no m (c ∷ cs) (b ∷ bs) zero d lt h = ap (λ v. v ∷ bs) (ap (λ v. b || v) h ∙ or-false b)
 marked_suc_no m (c ∷ cs) (b ∷ bs) (suc n) d lt h = ap (λ v. (b || m c) ∷ v) (marked_suc_no m cs bs n d (omega arith) h)
 
 -- some centres more, none of them a member
@@ -139,17 +136,13 @@ marked_same m n same (c ∷ cs) (b ∷ bs) = ap (λ v. (b || v) ∷ marked m cs 
 pub marked_none : (m : Point → Bool) → ((c : Point) → m c ≡ false) → (cs : List Point) (bs : List Bool) → marked m cs bs ≡ bs
 marked_none m none [] bs = refl
 marked_none m none (c ∷ cs) [] = refl
-marked_none m none (c ∷ cs) (b ∷ bs) = ap (λ v. v ∷ marked m cs bs) (ap (λ v. b || v) (none c) ∙ or_false b) ∙ ap (λ v. b ∷ v) (marked_none m none cs bs)
-
-or_or : (a b c : Bool) → ((a || b) || c) ≡ (a || (b || c))
-or_or true b c = refl
-or_or false b c = refl
+marked_none m none (c ∷ cs) (b ∷ bs) = ap (λ v. v ∷ marked m cs bs) (ap (λ v. b || v) (none c) ∙ or-false b) ∙ ap (λ v. b ∷ v) (marked_none m none cs bs)
 
 -- two marks one after another are the mark of what meets one of the tests
 pub marked-marked : (m n : Point → Bool) (cs : List Point) (bs : List Bool) → marked n cs (marked m cs bs) ≡ marked (λ c. m c || n c) cs bs
 marked-marked m n [] bs = refl
 marked-marked m n (c ∷ cs) [] = refl
-marked-marked m n (c ∷ cs) (b ∷ bs) = ap (λ v. v ∷ marked n cs (marked m cs bs)) (or_or b (m c) (n c)) ∙ ap (λ v. (b || (m c || n c)) ∷ v) (marked-marked m n cs bs)
+marked-marked m n (c ∷ cs) (b ∷ bs) = ap (λ v. v ∷ marked n cs (marked m cs bs)) (or_assoc b (m c) (n c)) ∙ ap (λ v. (b || (m c || n c)) ∷ v) (marked-marked m n cs bs)
 
 -- a mask before the first of several shapes
 pub mask_start : {X : Type 0} (f : Point → X → Bool) (xs : List X) (w : Window) (old : Bits)

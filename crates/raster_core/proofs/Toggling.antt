@@ -1,6 +1,6 @@
 -- How the parities of a row change with one crossing more, and how edges, rings and rows add up.
 use Rattle.std.proofs.Common.{◌≡◌, ◌≢◌, ◌==◌, ℕ, ◌+◌, ◌-◌, ◌*◌, ◌%◌, ◌<◌, ◌≤◌, Bool, true, false, not, ◌&&◌, List, [], ◌∷◌, ◌++◌, length, take, get_or, set, replicate, count_by, cond, if◌then◌else◌, zero, suc, refl, ap, sym, subst, ◌∙◌, inl, inr, arith}
-use Rattle.std.specs.Prelude.{nat_le, Result, Ok, Err, IfOk}
+use Rattle.std.specs.Prelude.{nat_le}
 use Rattle.std.specs.List.{All}
 use Rattle.std.specs.List.Sorted.{IsPermutation, IsNonDecreasing}
 use Rattle.std.proofs.Math.Nat.{mul-le-mul_right}
@@ -240,8 +240,3 @@ set_order n (false ∷ bits) = set_order (n + 1) bits
 -- places put in order
 pub same_sorted : (old sorted : List ℕ) → IsPermutation old sorted → SameParities old sorted
 same_sorted old sorted moved = record { parity = λ p. ap is_odd (sum_by-IsPermutation (λ x. cond (p x) 1 0) old sorted moved) }
-
--- what holds of an Ok
-pub if_ok : {T E : Type 0} (P Q : T → Type 0) (r : Result T E) → ((x : T) → P x → Q x) → IfOk r P → IfOk r Q
-if_ok P Q (Ok x) f h = f x h
-if_ok P Q (Err e) f h = tt

@@ -7,6 +7,7 @@ use Rattle.std.proofs.lemmas.List.Folds.{find_at}
 use Rattle.std.proofs.lemmas.Option.{slice_get_past}
 use Rattle.std.proofs.lemmas.Grind.{flat_map-append}
 use Rattle.std.proofs.lemmas.List.{take_more, take_all, drop_all}
+use Rattle.farm_base.proofs.Outcomes.{none_past}
 use Rattle.farm_history.proofs.Lists.{any-append, each-join}
 use Rattle.plain_shapes.specs.Features.{Feature}
 use Rattle.plain_shapes.specs.Reach.{feature_reaches}
@@ -52,10 +53,6 @@ some_place : (b : Bool) (n i : ℕ) → cond b (Some n) None ≡ Some i → n �
 some_place true n i e = cc
 some_place false n i e = let none : Option ℕ = None in let never : none ≡ Some i = e in cc
 
-no_place : (b : Bool) (n : ℕ) → cond b (Some n) None ≡ None → b ≡ false
-no_place true n e = let none : Option ℕ = None in let never : Some n ≡ none = e in cc
-no_place false n e = refl
-
 abbrev of_id : ℕ → Feature → Bool
 of_id id f = nat_eq f.id id
 
@@ -67,7 +64,7 @@ placed features id place f at is =
 -- there is none
 pub unplaced : (features : List Feature) (id : ℕ) → None ≡ position (of_id id) features → [] ≡ at_id features id
 unplaced features id at =
-    let past : length features ≤ position_or_len (of_id id) features = ltb-false (position_or_len (of_id id) features) (length features) (no_place (nat_lt (position_or_len (of_id id) features) (length features)) (position_or_len (of_id id) features) (sym at)) in
+    let past : length features ≤ position_or_len (of_id id) features = ltb-false (position_or_len (of_id id) features) (length features) (none_past (nat_lt (position_or_len (of_id id) features) (length features)) (position_or_len (of_id id) features) (sym at)) in
     ap feature_list (sym (find_at (of_id id) features ∙ slice_get_past features (position_or_len (of_id id) features) past))
 
 -- boxes that are added to none are all

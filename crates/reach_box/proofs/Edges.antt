@@ -4,6 +4,7 @@ use Rattle.std.specs.List.{list_any}
 use Rattle.std.proofs.lemmas.Bool.{or_left}
 use Rattle.std.proofs.lemmas.Bool.Decides.{nat_tests}
 use Rattle.std.proofs.lemmas.List.Elements.{All-head}
+use Rattle.std.proofs.Math.Bool.{or-false}
 use Rattle.farm_history.proofs.Lists.{any-append}
 use Rattle.plain_world.specs.declared.world.Point.{Point}
 use Rattle.plain_world.specs.declared.world.Square.{Square}
@@ -15,10 +16,6 @@ use Rattle.geo_model.specs.declared.bounds.Bounds.{Bounds}
 use Rattle.geo_model.specs.Bounds.{box_with, no_bounds, bounds_of}
 use Rattle.geo_model.specs.Shapes.{is_none, parts_of, IsShape}
 use Rattle.reach_box.specs.Boxes.{IsBox, box_reaches}
-
-or_false : (a : Bool) → (a || false) ≡ a
-or_false true = refl
-or_false false = refl
 
 regrouped : (p q r t : Bool) → ((p && q) && (r && t)) ≡ (((p && q) && r) && t)
 regrouped true true r t = refl
@@ -40,25 +37,25 @@ le_max : (w a b m : ℕ) → nat_le w (max a b + m) ≡ (nat_le w (a + m) || nat
 le_max w a b m = grind (arith, nat_tests)
 
 pub west_part : (points : List Point) (b : Bounds) (e : ℕ) → nat_lt (fold box_with b points).west e ≡ (nat_lt b.west e || list_any (λ q. nat_lt q.x e) points)
-west_part [] b e = sym (or_false (nat_lt b.west e))
+west_part [] b e = sym (or-false (nat_lt b.west e))
 west_part (p ∷ points) b e = west_part points (box_with b p) e ∙ any_or _ _ _ _ (lt_min b.west p.x e)
 
 pub north_part : (points : List Point) (b : Bounds) (e : ℕ) → nat_lt (fold box_with b points).north e ≡ (nat_lt b.north e || list_any (λ q. nat_lt q.y e) points)
-north_part [] b e = sym (or_false (nat_lt b.north e))
+north_part [] b e = sym (or-false (nat_lt b.north e))
 north_part (p ∷ points) b e = north_part points (box_with b p) e ∙ any_or _ _ _ _ (lt_min b.north p.y e)
 
 pub east_part : (points : List Point) (b : Bounds) (w m : ℕ) → nat_le w ((fold box_with b points).east + m) ≡ (nat_le w (b.east + m) || list_any (λ q. nat_le w (q.x + m)) points)
-east_part [] b w m = sym (or_false (nat_le w (b.east + m)))
+east_part [] b w m = sym (or-false (nat_le w (b.east + m)))
 east_part (p ∷ points) b w m = east_part points (box_with b p) w m ∙ any_or _ _ _ _ (le_max w b.east p.x m)
 
 pub south_part : (points : List Point) (b : Bounds) (w m : ℕ) → nat_le w ((fold box_with b points).south + m) ≡ (nat_le w (b.south + m) || list_any (λ q. nat_le w (q.y + m)) points)
-south_part [] b w m = sym (or_false (nat_le w (b.south + m)))
+south_part [] b w m = sym (or-false (nat_le w (b.south + m)))
 south_part (p ∷ points) b w m = south_part points (box_with b p) w m ∙ any_or _ _ _ _ (le_max w b.south p.y m)
 
 -- and over all parts.
 module _ (test : Point → Bool) (edge : Bounds → Bool) (part : (points : List Point) (b : Bounds) → edge (fold box_with b points) ≡ (edge b || list_any test points)) where
   over_parts : (parts : List (List Point)) (b : Bounds) → edge (fold (fold box_with) b parts) ≡ (edge b || list_any test (flat_map (λ l. l) parts))
-  over_parts [] b = sym (or_false (edge b))
+  over_parts [] b = sym (or-false (edge b))
   over_parts (points ∷ parts) b =
       over_parts parts (fold box_with b points) ∙ (any_or _ _ _ _ (part points b) ∙ ap (λ t. edge b || t) (sym (any-append test points (flat_map (λ l. l) parts))))
 

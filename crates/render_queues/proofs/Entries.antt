@@ -4,8 +4,7 @@ use Rattle.std.specs.Prelude.{nat_lt, position, is_some, option_map}
 use Rattle.std.specs.List.{IsDistinct, AllByRecursion, position_or_len}
 use Rattle.std.specs.Map.{keys_of, values_of, lookup}
 use Rattle.std.proofs.lemmas.List.{length-append}
-use Rattle.std.proofs.lemmas.Bool.{false≢true}
-use Rattle.std.proofs.lemmas.Bool.Decides.{nat_tests}
+use Rattle.std.proofs.lemmas.Bool.{false≢true, ltb-true}
 use Rattle.indexmap.specs.IndexMap.{insert_entry, set_value_at}
 use Rattle.farm_history.specs.declared.keys.Key.{Key}
 use Rattle.farm_history.specs.declared.queues.Limits.{Limits}
@@ -190,13 +189,10 @@ one_fits limits left es Queue.Low counted one = let all = total es in omega (ari
 one_fits limits left es Queue.Dirty counted one = let all = total es in omega (arith, counted Queue.Prio, counted Queue.Request, counted Queue.Low, counted Queue.Dirty, counted Queue.Bulk)
 one_fits limits left es Queue.Bulk counted one = let all = total es in omega (arith, counted Queue.Prio, counted Queue.Request, counted Queue.Low, counted Queue.Dirty, counted Queue.Bulk)
 
-less : (m n : ℕ) → nat_lt m n ≡ true → m < n
-less m n h = grind (arith, nat_tests)
-
 -- a queue that is below its limit has one left
 pub one_left : (limits left : Limits) (es : List Entry) (queue : Queue) → Counted limits left es → is_below (line_of (lines_in limits es) queue) ≡ true → 1 ≤ limit_of left queue
 one_left limits left es queue counted below =
-    let fewer = less (length (keys_in queue es)) (limit_of limits queue) (ap is_below (sym (line_in limits es queue)) ∙ below) in
+    let fewer = ltb-true (length (keys_in queue es)) (limit_of limits queue) (ap is_below (sym (line_in limits es queue)) ∙ below) in
     omega (arith, counted queue)
 
 limit_with : (limits : Limits) (own queue : Queue) (n : ℕ) → limit_of (with_limit limits own n) queue ≡ cond (same_queue own queue) n (limit_of limits queue)
@@ -351,14 +347,6 @@ sifted xs rest e distinct stays =
 -- and is one more
 pub sifted_more : (xs : List Entry) (e : Entry) → is_some e.1 ≡ true → length (still_there (xs ++ e ∷ [])) ≡ length (still_there xs) + 1
 sifted_more xs e stays = rw (filter-append (λ (x : Entry). is_some x.1) xs (e ∷ []), stays) (length-append (still_there xs) (e ∷ []))
-
--- one that has left stays behind
-pub sifted_out : (xs : List Entry) (e : Entry) → is_some e.1 ≡ false → still_there (xs ++ e ∷ []) ≡ still_there xs
-sifted_out xs e gone = rw (filter-append (λ (x : Entry). is_some x.1) xs (e ∷ []), gone) (append-nil (still_there xs))
-
--- some are no more than all
-pub some_few : (xs rest : List Entry) → length (still_there xs) ≤ length (still_there (xs ++ rest))
-some_few xs rest = rw (filter-append (λ (x : Entry). is_some x.1) xs rest) (let long = length-append (still_there xs) (still_there rest) in omega arith)
 
 -- ---- the first of a queue
 

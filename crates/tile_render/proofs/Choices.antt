@@ -9,6 +9,7 @@ use Rattle.farm_base.specs.declared.Attr.{Attr}
 use Rattle.std.proofs.lemmas.List.Sums.{prefix_len_passes, fold_more}
 use Rattle.std.proofs.lemmas.List.Folds.{list_any_at, list_any_none}
 use Rattle.std.proofs.lemmas.List.Quantifiers.{position-Some}
+use Rattle.farm_base.proofs.Outcomes.{none_past}
 use Rattle.plain_world.specs.declared.world.Window.{Window}
 use Rattle.plain_drawing.specs.declared.style.FilterMode.{FilterMode}
 use Rattle.plain_drawing.specs.declared.style.FilterMode.TheVariants.{All, First}
@@ -61,10 +62,6 @@ first_at p rules k r rest found is behind =
 -- the rules behind a place, as the code takes them
 pub rules_behind : {X : Type 0} (xs ys : List X) (n : ℕ) → xs ≡ ys → take (length xs - n) (drop n xs) ≡ drop n ys
 rules_behind xs ys n same = take_all (length xs - n) (drop n xs) (omega (arith, length-drop n xs)) ∙ ap (drop n) same
-
-none_past : (t : Bool) (n : ℕ) → cond t (Some n) None ≡ None → t ≡ false
-none_past true n h = absurd (cc)
-none_past false n h = refl
 
 -- where none matches
 pub no_match : (p : Rule → Bool) (rules : List Rule) → None ≡ position p rules → list_any p rules ≡ false

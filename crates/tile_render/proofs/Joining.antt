@@ -3,10 +3,10 @@ use Rattle.std.proofs.Common.{◌≡◌, ℕ, ◌+◌, ◌-◌, ◌*◌, ◌<◌
 use Rattle.std.specs.Prelude.{nat_eq, nat_le, All}
 use Rattle.std.specs.List.Sorted.{IsNonDecreasingBy}
 use Rattle.std.proofs.Math.Nat.{mul-le-mul_right}
-use Rattle.std.proofs.Math.Bool.{or-false}
+use Rattle.std.proofs.Math.Bool.{or-false, or_assoc}
 use Rattle.std.proofs.Math.ListN.{get_or-append}
 use Rattle.std.proofs.Math.Seq.{get_or-append_seam}
-use Rattle.std.proofs.lemmas.Bool.{cases_lt, and_parts, and_from, eqb-true, eq-eqb, le-leb, leb-true, leb-false, false_from_ne_true}
+use Rattle.std.proofs.lemmas.Bool.{cases_lt, and_parts, and_from, eqb-true, eq-eqb, le-leb, leb-true, leb-false, false_from_ne_true, or_right}
 use Rattle.std.proofs.lemmas.List.{take_all, get_or_default, length-append, length-replicate}
 use Rattle.std.proofs.lemmas.List.Elements.{All-push, All-weaker}
 use Rattle.std.proofs.lemmas.List.Folds.{list_any-append, list_any_none, list_any_more, list_any_at}
@@ -46,17 +46,9 @@ held j i p h =
 off_piece : (j i : ℕ) (p : Piece) → (Held j i p → ⊥) → has j i p ≡ false
 off_piece j i p out = false_from_ne_true (has j i p) (λ e. out (held j i p e))
 
-or_right : (a b : Bool) → b ≡ true → (a || b) ≡ true
-or_right true b e = refl
-or_right false b e = e
-
 or_split : (a b : Bool) → (a || b) ≡ true → (a ≡ true) ⊎ (b ≡ true)
 or_split true b e = inl refl
 or_split false b e = inr e
-
-or_swap : (a b c : Bool) → ((a || b) || c) ≡ (a || (b || c))
-or_swap true b c = refl
-or_swap false b c = refl
 
 same_bool : (a b : Bool) → (a ≡ true → b ≡ true) → (b ≡ true → a ≡ true) → a ≡ b
 same_bool true b to back = sym (to refl)
@@ -100,7 +92,7 @@ pub joined_touching : (pieces kept : List Piece) (last next piece : Piece) (k : 
 joined_touching pieces kept last next piece k within order is touches next_is f = subst (λ p. JoinedTo pieces kept p (k + 1)) (sym next_is) (record {
   same = λ j i.
       ap (λ t. covered kept j i || t) (merged_has j i last piece end row (omega (arith, row, below)) start (omega arith) (omega arith) which)
-      ∙ sym (or_swap (covered kept j i) (has j i last) (has j i piece))
+      ∙ sym (or_assoc (covered kept j i) (has j i last) (has j i piece))
       ∙ ap (λ t. t || has j i piece) (f.same j i) ∙ ap (λ p. covered (take k pieces) j i || has j i p) is
       ∙ sym (list_any_more (has j i) pieces k piece within);
   apart = f.apart;

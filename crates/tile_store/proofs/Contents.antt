@@ -4,7 +4,9 @@ use Rattle.std.specs.Prelude.{option_map, find, position}
 use Rattle.std.specs.List.{position_or_len}
 use Rattle.std.proofs.lemmas.Slice.Eq.{bytes_eq-Decides}
 use Rattle.std.specs.Str.{bytes_eq}
-use Rattle.std.proofs.lemmas.Bool.Decides.{nat_tests}
+use Rattle.std.proofs.lemmas.Bool.{false_from_ne_true, ltb-true, ltb-false}
+use Rattle.std.proofs.lemmas.Option.{cond_some}
+use Rattle.farm_base.proofs.Outcomes.{none_past}
 use Rattle.farm_base.specs.declared.files.FailedCall.{FailedCall}
 use Rattle.farm_base.specs.InMemory.{content_of}
 use Rattle.farm_base.specs.Outside.{Counted}
@@ -13,14 +15,6 @@ use Rattle.tile_store.specs.Stores.{Stored, PutFailed, failed_put}
 
 abbrev Pair : Type 0
 Pair = List ℕ × List ℕ
-
-some_inv : (b : Bool) (n i : ℕ) → cond b (Some n) None ≡ Some i → (b ≡ true) × (n ≡ i)
-some_inv true n i h = (refl, cc)
-some_inv false n i h = cc
-
-none_inv : (b : Bool) (n : ℕ) → cond b (Some n) None ≡ None → b ≡ false
-none_inv true n h = cc
-none_inv false n h = refl
 
 replaced_by : (b : Bool) (x : Pair) (xs rest : List Pair) (bytes : List ℕ) (n : ℕ) (d : Pair)
     → (b ≡ false → set xs n ((get_or xs n d).0, bytes) ≡ rest)
@@ -43,18 +37,12 @@ replaced (x ∷ xs) path bytes d h =
     replaced_by (bytes_eq x.0 path) x xs (with_content xs path bytes) bytes (position_or_len (λ p. bytes_eq p.0 path) xs) d
     (λ e. replaced xs path bytes d (tail_below (bytes_eq x.0 path) _ (length xs) h e))
 
-less : (a b : ℕ) → nat_lt a b ≡ true → a < b
-less a b h = grind (arith, nat_tests)
-
-not_less : (a b : ℕ) → nat_lt a b ≡ false → b ≤ a
-not_less a b h = grind (arith, nat_tests)
-
 -- the first pair of the path, replaced
 pub content_replaced : (pairs : List Pair) (path bytes : List ℕ) (i : ℕ) (d : Pair) → position (λ p. bytes_eq p.0 path) pairs ≡ Some i
     → set pairs i ((get_or pairs i d).0, bytes) ≡ with_content pairs path bytes
 content_replaced pairs path bytes i d h =
-    let inv = some_inv (nat_lt (position_or_len (λ p. bytes_eq p.0 path) pairs) (length pairs)) (position_or_len (λ p. bytes_eq p.0 path) pairs) i h in
-    ap (λ n. set pairs n ((get_or pairs n d).0, bytes)) (sym inv.1) ∙ replaced pairs path bytes d (less _ _ inv.0)
+    let inv = cond_some (nat_lt (position_or_len (λ p. bytes_eq p.0 path) pairs) (length pairs)) (position_or_len (λ p. bytes_eq p.0 path) pairs) i h in
+    ap (λ n. set pairs n ((get_or pairs n d).0, bytes)) (sym inv.1) ∙ replaced pairs path bytes d (ltb-true _ _ inv.0)
 
 added_by : (b : Bool) (x : Pair) (xs rest : List Pair) (path bytes : List ℕ) → b ≡ false → xs ++ (path, bytes) ∷ [] ≡ rest
     → (x ∷ xs) ++ (path, bytes) ∷ [] ≡ cond b ((x.0, bytes) ∷ xs) (x ∷ rest)
@@ -76,7 +64,7 @@ added (x ∷ xs) path bytes h =
 pub content_added : (pairs : List Pair) (path bytes : List ℕ) → position (λ p. bytes_eq p.0 path) pairs ≡ None
     → pairs ++ (path, bytes) ∷ [] ≡ with_content pairs path bytes
 content_added pairs path bytes h =
-    added pairs path bytes (not_less _ _ (none_inv (nat_lt (position_or_len (λ p. bytes_eq p.0 path) pairs) (length pairs)) (position_or_len (λ p. bytes_eq p.0 path) pairs) h))
+    added pairs path bytes (ltb-false _ _ (none_past (nat_lt (position_or_len (λ p. bytes_eq p.0 path) pairs) (length pairs)) (position_or_len (λ p. bytes_eq p.0 path) pairs) h))
 
 -- what a path holds, by the first pair
 content_cons : (b : Bool) (x : Pair) (xs : List Pair) (q : List ℕ) → bytes_eq x.0 q ≡ b
@@ -89,10 +77,6 @@ same_text a = (bytes_eq-Decides a a).1 refl
 
 text_from : (a b : List ℕ) → bytes_eq a b ≡ true → a ≡ b
 text_from a b h = (bytes_eq-Decides a b).0 h
-
-false_by : (t : Bool) → (t ≡ true → ⊥) → t ≡ false
-false_by true h = absurd (h refl)
-false_by false h = refl
 
 same_by : (b : Bool) (x : Pair) (xs rest : List Pair) (path bytes : List ℕ) → bytes_eq x.0 path ≡ b → content_of rest path ≡ Some bytes
     → content_of (cond b ((x.0, bytes) ∷ xs) (x ∷ rest)) path ≡ Some bytes
@@ -115,14 +99,14 @@ other_by : (b : Bool) (x : Pair) (xs rest : List Pair) (path bytes q : List ℕ)
     → content_of (cond b ((x.0, bytes) ∷ xs) (x ∷ rest)) q ≡ content_of (x ∷ xs) q
 other_by true x xs rest path bytes q e ne h =
     let apart : bytes_eq x.0 q ≡ false =
-    false_by (bytes_eq x.0 q) (λ t. ne (sym (text_from x.0 q t) ∙ text_from x.0 path e)) in
+    false_from_ne_true (bytes_eq x.0 q) (λ t. ne (sym (text_from x.0 q t) ∙ text_from x.0 path e)) in
     content_cons false (x.0, bytes) xs q apart ∙ sym (content_cons false x xs q apart)
 other_by false x xs rest path bytes q e ne h = either_by (bytes_eq x.0 q) x xs rest q refl h
 
 -- and every other path what it held
 pub content_other : (pairs : List Pair) (path bytes q : List ℕ) → q ≢ path → content_of (with_content pairs path bytes) q ≡ content_of pairs q
 content_other [] path bytes q ne =
-    content_cons false (path, bytes) [] q (false_by (bytes_eq path q) (λ t. ne (sym (text_from path q t))))
+    content_cons false (path, bytes) [] q (false_from_ne_true (bytes_eq path q) (λ t. ne (sym (text_from path q t))))
 content_other (x ∷ xs) path bytes q ne =
     other_by (bytes_eq x.0 path) x xs (with_content xs path bytes) path bytes q refl ne (content_other xs path bytes q ne)
 

@@ -4,6 +4,7 @@ use Rattle.std.specs.List.{range_with_len}
 use Rattle.std.proofs.Math.Nat.{mul-le-mul_right}
 use Rattle.std.proofs.lemmas.List.{same_lists, get_or-take, get_or-drop, get_or-map, get_or-replicate, get_or_default, length-take, length-drop, length-map, length-replicate, map-append, take_all, drop-drop}
 use Rattle.std.proofs.lemmas.List.FromFn.{fill_by_all}
+use Rattle.plain_drawing.proofs.Cuts.{map_range, flat_range}
 use Rattle.plain_shapes.specs.declared.colour.Colour.{Colour}
 use Rattle.plain_shapes.specs.Images.{Pixels}
 use Rattle.plain_shapes.specs.Ppm.{ppm}
@@ -114,16 +115,6 @@ groups g a x (suc m) =
     ∙ ap (map g) (range_both (x * a) a (m * a))
     ∙ ap (λ k. map g (range_with_len (x * a) k)) t
 
-map_same : {Y : Type 0} (f g : ℕ → Y) (b n : ℕ) → ((k : ℕ) → k < b + n → f k ≡ g k) → map f (range_with_len b n) ≡ map g (range_with_len b n)
-map_same f g b zero same = refl
-map_same f g b (suc n) same =
-    ap (λ y. y ∷ map f (range_with_len (b + 1) n)) (same b (omega arith)) ∙ ap (λ ys. g b ∷ ys) (map_same f g (b + 1) n (λ k h. same k (omega (arith, h))))
-
-flat_same : {Y : Type 0} (f g : ℕ → List Y) (b n : ℕ) → ((k : ℕ) → k < b + n → f k ≡ g k) → flat_map f (range_with_len b n) ≡ flat_map g (range_with_len b n)
-flat_same f g b zero same = refl
-flat_same f g b (suc n) same =
-    ap (λ y. y ++ flat_map f (range_with_len (b + 1) n)) (same b (omega arith)) ∙ ap (λ ys. g b ++ ys) (flat_same f g (b + 1) n (λ k h. same k (omega (arith, h))))
-
 laid : {X Y : Type 0} (f : X → List Y) (xs : List X) → flat_map (λ y. y) (map f xs) ≡ flat_map f xs
 laid f [] = refl
 laid f (x ∷ xs) = ap (λ ys. f x ++ ys) (laid f xs)
@@ -140,8 +131,8 @@ texts_joined s a tiles are =
     let g = λ (k : ℕ). ppm s s (get_or tiles k []) in
     let z : 0 * a ≡ 0 = omega arith in
     let each : part_texts image s a ≡ flat_map (λ j. map (λ k. g (j * a + k)) (range_with_len 0 a)) (range_with_len 0 a) =
-    flat_same (column_texts image s a) (λ j. map (λ k. g (j * a + k)) (range_with_len 0 a)) 0 a
-    (λ x h. map_same (λ y. part_text image s x y) (λ k. g (x * a + k)) 0 a
+    flat_range (column_texts image s a) (λ j. map (λ k. g (j * a + k)) (range_with_len 0 a)) 0 a
+    (λ x h. map_range (λ y. part_text image s x y) (λ k. g (x * a + k)) 0 a
     (λ y k. ap (ppm s s) (tile_cut s a x y tiles are (omega (arith, h)) (omega (arith, k))))) in
     let all : map (ppm s s) tiles ≡ map g (range_with_len 0 (a * a)) =
     fill_by_all g (map (ppm s s) tiles) (a * a) [] (length-map tiles (ppm s s) ∙ are.count) (λ k h. get_or-map (ppm s s) tiles k [] [] (omega (arith, h, are.count))) in

@@ -10,7 +10,7 @@ use Rattle.plain_world.proofs.Windows.{size_bounds}
 use Rattle.plain_shapes.specs.declared.colour.Colour.{Colour}
 use Rattle.plain_shapes.specs.Images.{Pixels, IsRaster}
 use Rattle.plain_image.specs.Runs.{run_changed}
-use Rattle.plain_image.proofs.Runs.{run_length, run_none}
+use Rattle.plain_image.proofs.Runs.{run_length}
 use Rattle.tiled_image.specs.inner.Tiles.{Texts, IsTiled, joined}
 use Rattle.tiled_image.proofs.JoinedRuns.{runs_adjoin}
 use Rattle.tiled_image.proofs.Joined.{Spot, tile_of, inner_of, place_of, black, spot, place_is as place_at, place_in, tile_in, inner_in, length_joined, joined_at}
@@ -119,18 +119,6 @@ pub next_found : (f : Colour → Colour) (j start from end shift a tile place : 
 next_found f j start from end shift a tile place old t r before cols row tile_as place_as =
     found shift a from j tile place t r.tiled (omega (arith, r.cols, before, cols)) (omega (arith, r.rows, row)) tile_as place_as
 
-pub reached_none : (f : Colour → Colour) (j start end shift a : ℕ) (old : Pixels) (t : Texts) → IsTiled shift a t → image_of t.side a t.tiles ≡ old → start ≤ end
-    → Reached f j start start end shift a old t
-reached_none f j start end shift a old t is view order = record {
-  tiled = is;
-  cols = ap (λ m. m.cols) view;
-  rows = ap (λ m. m.rows) view;
-  low = omega arith;
-  high = order;
-  is = ap (λ m. m.pixels) view ∙ run_none f (j * old.cols + start) old.pixels
-      ∙ ap (λ k. run_changed f (j * old.cols + start) k old.pixels) (let e : j * old.cols + start - (j * old.cols + start) ≡ start - start = omega arith in e);
-}
-
 -- a tile changed is as long
 tiled_set : (shift a tile : ℕ) (t next : Texts) (c : List Colour) → IsTiled shift a t → length c ≡ t.side * t.side → next ≡ record t { tiles = set t.tiles tile c } → IsTiled shift a next
 tiled_set shift a tile t next c is long next_is =
@@ -183,11 +171,3 @@ reached_more f j start from until end shift a tile place old t next r g before u
           ∙ runs_adjoin f k0 (from - start) m old.pixels
           ∙ ap (λ k. run_changed f k0 k old.pixels) all;
     }
-
-pub reached_all : (f : Colour → Colour) (j start from end shift a : ℕ) (old : Pixels) (t : Texts) → Reached f j start from end shift a old t → end ≤ from
-    → image_of t.side a t.tiles ≡ record old { pixels = run_changed f (j * old.cols + start) (end - start) old.pixels }
-reached_all f j start from end shift a old t r done =
-    ap (λ k. record { cols = k; rows = t.side * a; pixels = joined t.side a t.tiles }) r.cols
-    ∙ ap (λ k. record { cols = old.cols; rows = k; pixels = joined t.side a t.tiles }) r.rows
-    ∙ ap (λ ps. record { cols = old.cols; rows = old.rows; pixels = ps })
-    (r.is ∙ ap (λ k. run_changed f (j * old.cols + start) k old.pixels) (let e : from - start ≡ end - start = omega (arith, r.high, done) in e))

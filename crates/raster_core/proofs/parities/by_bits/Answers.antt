@@ -1,9 +1,10 @@
 use Rattle.std.proofs.Common.{◌≡◌, ◌+◌, ◌*◌, ◌∙◌, ℕ, List, ap, sym, subst, length, arith}
 use Rattle.std.specs.Prelude.{count_by}
 use Rattle.std.specs.List.Sorted.{IsNonDecreasing}
+use Rattle.farm_base.proofs.Outcomes.{if_ok}
 use Rattle.plain_shapes.specs.Rings.{is_odd}
 use Rattle.raster_core.specs.inner.Toggles.{AllInside}
-use Rattle.raster_core.proofs.Toggling.{if_ok, set_below, set_order}
+use Rattle.raster_core.proofs.Toggling.{set_below, set_order}
 use Rattle.raster_core.proofs.parities.by_bits.Goals as goal
 
 pub returns-clause-inside : goal.returns-clause-inside

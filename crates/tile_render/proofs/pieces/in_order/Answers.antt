@@ -1,8 +1,8 @@
 use Rattle.std.proofs.Common.{List, sym, subst}
 use Rattle.std.specs.Prelude.{All}
+use Rattle.farm_base.proofs.Outcomes.{if_ok}
 use Rattle.tile_render.specs.declared.pieces.Piece.{Piece}
 use Rattle.tile_render.specs.inner.Pieces.{IsPiece}
-use Rattle.tile_render.proofs.Steps.{if_ok}
 use Rattle.tile_render.proofs.pieces.in_order.Goals as goal
 
 pub returns-clause-inside : goal.returns-clause-inside

@@ -1,7 +1,7 @@
 use Rattle.std.proofs.Common.{◌∙◌, sym}
 use Rattle.std.proofs.lemmas.List.Sorted.{list_any-IsPermutation, All-permutation}
+use Rattle.farm_base.proofs.Outcomes.{if_ok}
 use Rattle.tile_render.specs.inner.Pieces.{IsPiece, has}
-use Rattle.tile_render.proofs.Steps.{if_ok}
 use Rattle.tile_render.proofs.pieces.tidied.Goals as goal
 
 pub returns-clause-same : goal.returns-clause-same
