@@ -82,9 +82,9 @@ module _ (plan : FarmPlan) (tells : Type 0) where
   -- wherever the key is clean later, g being what came before `later`, a drawing of it was claimed
   -- after g and stored
   abbrev pub StaysDirty : (later g : List Entry) → Key → Type 0
-  StaysDirty later g k =
-      (after between : List Entry) → later ≡ after ++ between → is_clean (plan_of plan)
-      (between ++ g) k ≡ true → (d : Drawing between k) × (is_stored_in d.since d.ticket ≡ true)
+  StaysDirty later g k = (after between : List Entry) → later ≡ after ++ between
+      → is_clean (plan_of plan) (between ++ g) k ≡ true
+      → (d : Drawing between k) × (is_stored_in d.since d.ticket ≡ true)
 
   -- **The promise**: whatever clients, workers, updates and expiries do, in any order, these hold
   -- of the history that comes of it.
@@ -102,15 +102,16 @@ module _ (plan : FarmPlan) (tells : Type 0) where
     -- something has touched since its Claim, it is stored as dirty, and stays so until a drawing
     -- that was claimed later is stored
     pub left_dirty : (later g : List Entry) (k : Key) (d : Drawing g k) (drawn clean : Bool)
-        → h ≡ later ++ Finish d.ticket drawn (Stored clean) ∷ g → IsTouched g k d →
-        (clean ≡ false) × StaysDirty later (Finish d.ticket drawn (Stored clean) ∷ g) k
+        → h ≡ later ++ Finish d.ticket drawn (Stored clean) ∷ g → IsTouched g k d
+        → (clean ≡ false) × StaysDirty later (Finish d.ticket drawn (Stored clean) ∷ g) k
     -- 4. Every Done names a tile that is clean at the request, where it is answered Done at once,
     -- or one that was stored after the request, where a reply says Done
     pub done_at_once : (later g : List Entry) (conn : Conn) (command : Cmd) (spot : Spot)
         → h ≡ later ++ Ask conn command spot AskAnswer.Done ∷ g
         → is_clean (plan_of plan) g (key_of spot) ≡ true
-    pub done_by_reply : (later g : List Entry) (front : ℕ) (r : Reply) → h
-        ≡ later ++ Collect front (Collected.Reply r) ∷ g → r.outcome ≡ Outcome.Done → IsAnswered g r
+    pub done_by_reply : (later g : List Entry) (front : ℕ) (r : Reply)
+        → h ≡ later ++ Collect front (Collected.Reply r) ∷ g
+        → r.outcome ≡ Outcome.Done → IsAnswered g r
 
 -- Each legal history of a valid plan keeps it; and of bytes one that is legal over a store that
 -- tells
