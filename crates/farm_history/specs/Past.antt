@@ -181,9 +181,9 @@ unfoldable pub waiting : Plan → List Entry → List Waits
 waiting p [] = []
 waiting p (Ask conn command spot answer ∷ g) =
     if touches p g (Ask conn command spot answer) (key_of spot)
-        && not (waits_in (waiting p g) (key_of spot) || flies g (key_of spot))
+    && not (waits_in (waiting p g) (key_of spot) || flies g (key_of spot))
     then with_dirty p.limits (key_of spot)
-        (after_answer answer (own_queue command) (key_of spot) (waiting p g))
+    (after_answer answer (own_queue command) (key_of spot) (waiting p g))
     else after_answer answer (own_queue command) (key_of spot) (waiting p g)
 waiting p (Claim worker (Job t k v) ∷ g) = without_key k (waiting p g)
 waiting p (Finish t drawn (Stored false) ∷ g) =
