@@ -192,7 +192,8 @@ impl<'a> LayerView<'a> {
 
     /// The least place from `from` on whose feature's bounding box, borders included, has a point in common
     /// with the rectangle, borders included; none exactly where there is no such place. The caller sees to
-    /// it that the rectangle's west is not past its east, nor its north past its south.
+    /// it that the rectangle's west is not past its east, nor its north past its south. No command calls it:
+    /// what is drawn is found by `near`. Its tests are those of `rows.rt` and `updates.rt` of `farm_tests`.
     pub fn next_near(&self, from: u32, west: u32, north: u32, east: u32, south: u32) -> Option<u32>
         requires across { west ≤ east }
         requires down { north ≤ south }

@@ -15,7 +15,9 @@ use plain_world::Meta;
 use std::alloc::Global;
 
 /// The container of a metatile's tiles, which come in order of their index places. The tiles are at
-/// least one byte long each and together under `2^31` bytes.
+/// least one byte long each and together under `2^31` bytes. No command calls it: `draw_container` of
+/// `meta_drawing` puts a head by `put_head` and draws the tiles behind it. Its test is
+/// `a_container_drawn_twice` of `farm_tests`.
 #[tactic(auto, unfolding(crate::specs::Container::container_of))]
 pub fn encode(alloc: Global, m: Meta, tiles: &[Bytes]) -> Result<Vec<u8>, NoMemory>
     requires { AreTilesOf m tiles.now }

@@ -56,7 +56,8 @@ fn set_runs(places: &[u32], w: Window, mask: &mut Mask)
 /// other bit changes, and after `NoMemory` none has. The points lie in the world, the window is a
 /// tile's or a metatile's, and the mask has its sides. It takes some bytes for each row that an edge
 /// crosses, at most some for each pixel of the window and 2 MB, and works along each edge's own rows, of which those
-/// that have one column are taken together.
+/// that have one column are taken together. No command calls it: `tile_render` paints the runs between the
+/// crossings without a mask. Its test is `a_square_with_centres_on_its_edges` of `farm_tests`.
 pub fn fill_mask(alloc: Global, rings: &[Path], w: Window, mask: &mut Mask) -> Result<(), NoMemory>
     requires rings { All (All InWorld) rings.now }
     requires window { IsWindow w }

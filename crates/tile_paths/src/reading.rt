@@ -12,7 +12,8 @@ use arrayvec::ArrayString;
 use merc_fixed::{meta_of, tile};
 use plain_world::Meta;
 
-/// The name and the metatile of which this is the path; `None` exactly where it is the path of none.
+/// The name and the metatile of which this is the path; `None` exactly where it is the path of none. No command
+/// calls it: a farm looks up paths that it made. Its test is the table of paths of `command_cases`.
 pub fn read_path(text: &str) -> Option<(ArrayString<40>, Meta)>
     ensures some { IfSome result (λ found. IsName found.0.bytes × IsMeta found.1
         × (text.now ≡ path_of found.0.bytes found.1)) }
