@@ -98,7 +98,7 @@ module _ {D : Type 0} (state : D → Outside StoreTold) where
   pub claimed : (f g : FarmSeen D) (worker : ℕ) (answer : Claimed) (log : List (ℕ × Entry)) → IsAfter state f log → Lasts state f g →
       ((told : Bool) (h : List Entry) → StandsFor state told f h → StandsFor state told g (Claim worker (claim_answer answer) ∷ h)) →
       ((told : Bool) (h : List Entry) → StandsFor state told f h → IfJob answer (Carries f.plan h)) → IfJob answer (λ job. IsValidJob job × (job.worker ≡ worker)) →
-      GivesJob worker answer log (lasting_of state f)
+      GivesJob worker answer log f.plan f.saved
   claimed f g worker (Claimed.Job job) log after l steps carries valid = (
     valid.0,
     valid.1,

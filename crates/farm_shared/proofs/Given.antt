@@ -35,7 +35,7 @@ none_by n t (x ∷ xs) none = go (ends_ticket x.1 t) (x.0 == n) (none_by n t xs)
 module _ {D : Type 0} (state : D → Outside StoreTold) where
   -- a job that a turn gave is the seat's to finish
   job_given : (part : LastingPart D) (worker n : ℕ) (job : JobSeen) (log seen : List (ℕ × Entry)) → seen ≡ log ++ (n, Claim worker (Job job.ticket (job_key job) job.version)) ∷ [] →
-      GivesJob worker (Claimed.Job job) log part → IsValidJob job × (job.worker ≡ worker) × HasJob part n seen job
+      GivesJob worker (Claimed.Job job) log part.plan part.saved → IsValidJob job × (job.worker ≡ worker) × HasJob part n seen job
   job_given part worker n job log seen is gives = (
     gives.0,
     gives.1,
@@ -55,7 +55,7 @@ module _ {D : Type 0} (state : D → Outside StoreTold) where
       turned = ap reverse is ∙ (reverse_more log _ ∙ ap (λ w. (n, Claim w (Job job.ticket (job_key job) job.version)) ∷ reverse log) (sym gives.1))
 
   pub claim_given : (made : Made (Turned D)) (worker : ℕ) (answer : Claimed) (v w : SeatState (Turned D) Entry) → w.number ≡ v.number →
-      Took (λ t log. IsAfter state t.farm log) (λ t. lasting_of state t.farm) made.about (Claim worker (claim_answer answer)) (GivesJob worker answer) v w →
+      Took (λ t log. IsAfter state t.farm log) (λ t. lasting_of state t.farm) made.about (Claim worker (claim_answer answer)) (λ log part. GivesJob worker answer log part.plan part.saved) v w →
       IfJob answer (λ job. IsValidJob job × (job.worker ≡ worker) × HasJob (lasts state made) w.number w.seen job)
   claim_given made worker (Claimed.Job job) v w same t =
       subst (λ n. IsValidJob job × (job.worker ≡ worker) × HasJob (lasts state made) n w.seen job) (sym same) (job_given (lasts state made) worker v.number job t.log w.seen t.seen t.promised)
@@ -87,7 +87,7 @@ module _ {D : Type 0} (state : D → Outside StoreTold) where
   -- The same, of a turn that may be worn out.
 
   pub claims_given : (made : Made (Turned D)) (worker : ℕ) (v w : SeatState (Turned D) Entry) (r : Result Claimed Worn) → w.number ≡ v.number →
-      MatchResult r (λ answer. Took (λ t log. IsAfter state t.farm log) (λ t. lasting_of state t.farm) made.about (Claim worker (claim_answer answer)) (GivesJob worker answer) v w) (λ _. w ≡ worn_out v) →
+      MatchResult r (λ answer. Took (λ t log. IsAfter state t.farm log) (λ t. lasting_of state t.farm) made.about (Claim worker (claim_answer answer)) (λ log part. GivesJob worker answer log part.plan part.saved) v w) (λ _. w ≡ worn_out v) →
       IfOk r (λ answer. IfJob answer (λ job. IsValidJob job × (job.worker ≡ worker) × HasJob (lasts state made) w.number w.seen job))
   claims_given made worker v w (Ok answer) same t = claim_given made worker answer v w same t
   claims_given made worker v w (Err worn) same t = tt

@@ -5,7 +5,6 @@ ghost use Rattle.farm_shared.specs.Shared.{Adds, IsLegalSo, OwnReply, lasts};
 ghost use Rattle.turn_cell.specs.SeatStates.{IsSeatOf, Knows, SameSeat, worn_out};
 
 use crate::shared::{Seat, SharedFarm};
-use farm_events::{Ask, Collect, Leave};
 use farm_plan::{AskAnswer, Cmd, Collected, Conn, Spot};
 use std::sync::Wait;
 use tile_store::TileStore;
@@ -30,7 +29,7 @@ impl<D: TileStore> SharedFarm<D> {
         ensures turn { MatchResult result (λ answer. Adds (Ask conn cmd spot answer) seat.old seat.new) (λ _. seat.new ≡ worn_out seat.old) }
         ensures legal { IfOk result (λ _. IsLegalSo D.state (lasts D.state self.now) seat.new.seen) }
     {
-        self.turn(rt, seat, Ask { conn, cmd, spot })
+        self.turn(rt, seat, farm_events::Ask { conn, cmd, spot })
     }
 
     /// A front takes the first of its replies, as `Farm::collect`, through its own seat. A reply is that of an ask
@@ -50,7 +49,7 @@ impl<D: TileStore> SharedFarm<D> {
         ensures legal { IfOk result (λ _. IsLegalSo D.state (lasts D.state self.now) seat.new.seen) }
         ensures own { IfOk result (λ answer. OwnReply front seat.old.mine answer) }
     {
-        self.turn(rt, seat, Collect { front })
+        self.turn(rt, seat, farm_events::Collect { front })
     }
 
     /// Forgets the open asks of a connection, as `Farm::leave`, through the seat of its front.
@@ -63,6 +62,6 @@ impl<D: TileStore> SharedFarm<D> {
         ensures turn { MatchResult result (λ answer. Adds (Leave conn answer) seat.old seat.new) (λ _. seat.new ≡ worn_out seat.old) }
         ensures legal { IfOk result (λ _. IsLegalSo D.state (lasts D.state self.now) seat.new.seen) }
     {
-        self.turn(rt, seat, Leave { conn })
+        self.turn(rt, seat, farm_events::Leave { conn })
     }
 }

@@ -6,7 +6,6 @@ ghost use Rattle.turn_cell.specs.SeatStates.{IsSeatOf, Knows, SameSeat, worn_out
 ghost use Rattle.plain_world.specs.World.{IsTile};
 
 use crate::shared::{Seat, SharedFarm};
-use farm_events::{Expire, Renew, Restyle, Stop, Update};
 use farm_plan::{Renewed, Restyled, Updated};
 use plain_world::Tile;
 use std::alloc::Global;
@@ -30,7 +29,7 @@ impl<D: TileStore> SharedFarm<D> {
         ensures turn { MatchResult result (λ answer. Adds (Update number answer) seat.old seat.new) (λ _. seat.new ≡ worn_out seat.old) }
         ensures legal { IfOk result (λ _. IsLegalSo D.state (lasts D.state self.now) seat.new.seen) }
     {
-        self.turn(rt, seat, Update { alloc, number })
+        self.turn(rt, seat, farm_events::Update { alloc, number })
     }
 
     /// Applies the update of the number and expires what it reaches, as `Farm::renew`.
@@ -48,7 +47,7 @@ impl<D: TileStore> SharedFarm<D> {
         ensures turn { MatchResult result (λ answer. Adds (Renew number answer) seat.old seat.new) (λ _. seat.new ≡ worn_out seat.old) }
         ensures legal { IfOk result (λ _. IsLegalSo D.state (lasts D.state self.now) seat.new.seen) }
     {
-        self.turn(rt, seat, Renew { alloc, number })
+        self.turn(rt, seat, farm_events::Renew { alloc, number })
     }
 
     /// Gives a map the style of the number, as `Farm::restyle`.
@@ -65,7 +64,7 @@ impl<D: TileStore> SharedFarm<D> {
         ensures turn { MatchResult result (λ answer. Adds (Restyle number answer) seat.old seat.new) (λ _. seat.new ≡ worn_out seat.old) }
         ensures legal { IfOk result (λ _. IsLegalSo D.state (lasts D.state self.now) seat.new.seen) }
     {
-        self.turn(rt, seat, Restyle { number })
+        self.turn(rt, seat, farm_events::Restyle { number })
     }
 
     /// Expires a tile, as `Farm::expire`.
@@ -78,7 +77,7 @@ impl<D: TileStore> SharedFarm<D> {
         ensures turn { MatchResult result (λ answer. Adds (Expire t answer) seat.old seat.new) (λ _. seat.new ≡ worn_out seat.old) }
         ensures legal { IfOk result (λ _. IsLegalSo D.state (lasts D.state self.now) seat.new.seen) }
     {
-        self.turn(rt, seat, Expire { tile: t })
+        self.turn(rt, seat, farm_events::Expire { tile: t })
     }
 
     /// Stops the farm for good, as `Farm::stop`.
@@ -90,6 +89,6 @@ impl<D: TileStore> SharedFarm<D> {
         ensures turn { MatchResult result (λ answer. Adds (Stop) seat.old seat.new) (λ _. seat.new ≡ worn_out seat.old) }
         ensures legal { IfOk result (λ _. IsLegalSo D.state (lasts D.state self.now) seat.new.seen) }
     {
-        self.turn(rt, seat, Stop)
+        self.turn(rt, seat, farm_events::Stop)
     }
 }

@@ -9,7 +9,6 @@ ghost use Rattle.farm_plan.specs.Jobs.{IsValidJob};
 
 use crate::shared::{Seat, SharedFarm};
 use farm_core::{Claimed, Drawn, Job};
-use farm_events::{Claim, Finish};
 use farm_plan::Finished;
 use std::alloc::Global;
 use std::sync::Wait;
@@ -28,7 +27,7 @@ impl<D: TileStore> SharedFarm<D> {
         ensures job { IfOk result (λ answer. IfJob answer (λ job.
             IsValidJob job × (job.worker ≡ worker) × HasJob (lasts D.state self.now) seat.new.number seat.new.seen job)) }
     {
-        self.turn(rt, seat, Claim { worker })
+        self.turn(rt, seat, farm_events::Claim { worker })
     }
 
     /// A worker hands back its drawing, as `Farm::finish`. A Claim among the seat's own entries gave the job, and no
@@ -51,6 +50,6 @@ impl<D: TileStore> SharedFarm<D> {
         ensures turn { MatchResult result (λ answer. Adds (Finish job.ticket (is_drawn drawn) answer) seat.old seat.new) (λ _. seat.new ≡ worn_out seat.old) }
         ensures legal { IfOk result (λ _. IsLegalSo D.state (lasts D.state self.now) seat.new.seen) }
     {
-        self.turn(rt, seat, Finish { alloc, job, drawn })
+        self.turn(rt, seat, farm_events::Finish { alloc, job, drawn })
     }
 }

@@ -5,7 +5,6 @@ ghost use Rattle.farm_shared.specs.Shared.{Adds, IsLegalSo, lasts};
 ghost use Rattle.turn_cell.specs.SeatStates.{IsSeatOf, Knows, SameSeat, worn_out};
 
 use crate::shared::{Seat, SharedFarm};
-use farm_events::{Count, Fetch, Look};
 use farm_plan::{Fetched, Looked, Spot, Tally};
 use std::alloc::Global;
 use std::sync::Wait;
@@ -28,7 +27,7 @@ impl<D: TileStore> SharedFarm<D> {
         ensures turn { MatchResult result (λ answer. Adds (Fetch spot answer) seat.old seat.new) (λ _. seat.new ≡ worn_out seat.old) }
         ensures legal { IfOk result (λ _. IsLegalSo D.state (lasts D.state self.now) seat.new.seen) }
     {
-        self.turn(rt, seat, Fetch { alloc, spot })
+        self.turn(rt, seat, farm_events::Fetch { alloc, spot })
     }
 
     /// How a spot's metatile stands, as `Farm::look`.
@@ -40,7 +39,7 @@ impl<D: TileStore> SharedFarm<D> {
         ensures turn { MatchResult result (λ answer. Adds (Look spot answer) seat.old seat.new) (λ _. seat.new ≡ worn_out seat.old) }
         ensures legal { IfOk result (λ _. IsLegalSo D.state (lasts D.state self.now) seat.new.seen) }
     {
-        self.turn(rt, seat, Look { spot })
+        self.turn(rt, seat, farm_events::Look { spot })
     }
 
     /// The farm's counts, as `Farm::tally`.
@@ -52,6 +51,6 @@ impl<D: TileStore> SharedFarm<D> {
         ensures turn { MatchResult result (λ answer. Adds (Counted answer) seat.old seat.new) (λ _. seat.new ≡ worn_out seat.old) }
         ensures legal { IfOk result (λ _. IsLegalSo D.state (lasts D.state self.now) seat.new.seen) }
     {
-        self.turn(rt, seat, Count)
+        self.turn(rt, seat, farm_events::Count)
     }
 }
