@@ -5,7 +5,8 @@ use Rattle.farm_history.specs.Replays.{Saving}
 use Rattle.farm_plan.specs.Plans.{FarmPlan}
 use Rattle.farm_events.specs.declared.lasting.LastingPart.{LastingPart}
 
--- the need at a seat of that number which has seen those turns, by a farm's plan and what it was resumed from
+-- the need at a seat of that number which has seen those turns, by a farm's plan and what it was resumed
+-- from
 abbrev pub Need : Type 1
 Need = ℕ → List (ℕ × Entry) → FarmPlan → Option Saving → Type 0
 
@@ -15,4 +16,5 @@ NeedOf need n seen part = need n seen part.plan part.saved
 
 -- the need at a seat of that number, whatever it has seen and whatever the farm began with
 abbrev pub NeedAlone : Need → ℕ → Type 0
-NeedAlone need n = (seen : List (ℕ × Entry)) (plan : FarmPlan) (saved : Option Saving) → need n seen plan saved
+NeedAlone need n =
+    (seen : List (ℕ × Entry)) (plan : FarmPlan) (saved : Option Saving) → need n seen plan saved

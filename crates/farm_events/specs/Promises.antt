@@ -1,5 +1,5 @@
 -- What the events of workers and fronts promise of their answers.
-use Rattle.std.specs.Prelude.{ℕ, ◌+◌, ◌≡◌, ◌≢◌, Bool, false, ◌==◌, if◌then◌else◌, List, [], ◌∷◌, reverse, Option}
+use Rattle.std.specs.Prelude.{ℕ, ◌+◌, ◌≡◌, ◌≢◌, Bool, false, ◌==◌, if◌then◌else◌, List, [], ◌∷◌, ◌++◌, reverse, Option}
 use Rattle.std.specs.List.{list_any}
 use Rattle.farm_history.specs.declared.answers.Collected.{Collected}
 use Rattle.farm_history.specs.declared.queues.Reply.{Reply}
@@ -10,8 +10,8 @@ use Rattle.farm_plan.specs.Plans.{FarmPlan}
 use Rattle.farm_plan.specs.Jobs.{IsValidJob, Carries}
 use Rattle.farm_core.specs.declared.claims.Claimed.{Claimed}
 use Rattle.farm_core.specs.Answers.{IfJob}
-use Rattle.farm_events.specs.Seats.{ends_ticket}
-use Rattle.farm_events.specs.Afters.{begun_past}
+use Rattle.farm_core.specs.Begins.{origin}
+use Rattle.farm_events.specs.Seats.{plain, ends_ticket}
 
 -- whether a Finish of the ticket stands among them
 abbrev pub is_ended : ℕ → List (ℕ × Entry) → Bool
@@ -27,11 +27,16 @@ abbrev pub IfReply : Collected → (Reply → Type 0) → Type 0
 IfReply (Collected.Reply r) holds = holds r
 IfReply _ holds = Unit {0}
 
--- of a job that a worker is given: it can be drawn, is that worker's, carries what it should of the history, and its ticket has no Finish
+-- of a job that a worker is given: it can be drawn, is that worker's, carries what it should of the history,
+-- and its ticket has no Finish
 abbrev pub GivesJob : ℕ → Claimed → List (ℕ × Entry) → FarmPlan → Option Saving → Type 0
-GivesJob worker answer log plan saved =
-    IfJob answer (λ job. IsValidJob job × (job.worker ≡ worker) × Carries plan (begun_past plan saved log) job × (is_ended job.ticket (reverse log) ≡ false))
+GivesJob worker answer log plan saved = IfJob answer (λ job.
+    IsValidJob job × (job.worker ≡ worker)
+    × Carries plan (plain (reverse log) ++ origin plan saved) job
+    × (is_ended job.ticket (reverse log) ≡ false))
 
--- of a reply that a front is given, other than that of a replay: it is the only one to an ask among the entries of its seat
+-- of a reply that a front is given, other than that of a replay: it is the only one to an ask among the
+-- entries of its seat
 abbrev pub GivesReply : ℕ → Collected → List (ℕ × Entry) → Type 0
-GivesReply front answer log = front ≢ replay_front → IfReply answer (λ r. IsOnlyReply (own_of (front + 1) (reverse log)) r)
+GivesReply front answer log =
+    front ≢ replay_front → IfReply answer (λ r. IsOnlyReply (own_of (front + 1) (reverse log)) r)
