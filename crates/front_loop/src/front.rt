@@ -17,7 +17,7 @@ use std::sync::Wait;
 /// offers and ends are `serve`'s.
 pub trait Front {
     /// What it keeps of a session.
-    type ConnState: Drop + Send;
+    type ConnState: Drop;
     /// A request, and a request that was done, with its answers; no value of them need be made.
     type Want;
 
