@@ -85,7 +85,8 @@ fn renew_starves(answer: Renewed) -> bool
 
 /// Says what an update was answered.
 pub fn say_update(alloc: Global, answer: Updated, response: &mut Vec<u8>) -> Disposition
-    ensures { (lists : List (List Tile)) (n : ℕ) → Answers lists (act.Updates n answer) response.old.items response.new.items result }
+    ensures { (lists : List (List Tile)) (n : ℕ)
+        → Answers lists (act.Updates n answer) response.old.items response.new.items result }
 {
     match update_text(alloc, answer) {
         Ok(text) => say(response, text.as_str()),
@@ -101,7 +102,8 @@ pub fn say_update(alloc: Global, answer: Updated, response: &mut Vec<u8>) -> Dis
 
 /// Says what an update that expires what it reaches was answered.
 pub fn say_renew(alloc: Global, answer: Renewed, response: &mut Vec<u8>) -> Disposition
-    ensures { (lists : List (List Tile)) (n : ℕ) → Answers lists (act.Renews n answer) response.old.items response.new.items result }
+    ensures { (lists : List (List Tile)) (n : ℕ)
+        → Answers lists (act.Renews n answer) response.old.items response.new.items result }
 {
     match renew_text(alloc, answer) {
         Ok(text) => say(response, text.as_str()),
@@ -116,7 +118,8 @@ pub fn say_renew(alloc: Global, answer: Renewed, response: &mut Vec<u8>) -> Disp
 }
 
 fn say_made(response: &mut Vec<u8>, text: Result<Text, NoMemory>) -> Disposition
-    ensures { (words : List ℕ) → IfOk text (λ t. t ≡ words) → Says words response.old.items response.new.items result }
+    ensures { (words : List ℕ) → IfOk text (λ t. t ≡ words)
+        → Says words response.old.items response.new.items result }
 {
     match text {
         Ok(text) => say(response, text.as_str()),

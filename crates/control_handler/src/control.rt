@@ -4,7 +4,7 @@ use crate::hearing::{ConnState, hear_piece};
 use expiry_lists::TileList;
 use farm_base::Worn;
 use farm_history::Reply;
-use front_loop::{Context, Disposition, Farm, Front};
+use front_loop::{Context, Disposition, Farm, Front, Piece};
 use std::alloc::Global;
 use std::sync::Wait;
 
@@ -15,7 +15,7 @@ pub struct Control<'a> {
     pub lists: &'a [TileList],
 }
 
-impl<'a, M: Farm> Front<M> for Control<'a> {
+impl<'a> Front for Control<'a> {
     ghost use Rattle.std.specs.Prelude.{refl};
     ghost use Rattle.control_handler.specs.Control.{control_rules};
     ghost use Rattle.control_handler.specs.inner.Doing.{Knows};
@@ -32,29 +32,28 @@ impl<'a, M: Farm> Front<M> for Control<'a> {
 
     ghost alone = { λ _ _ _ _. (refl, refl) };
 
-    fn number(&self, _farm: &M) -> u32 {
+    fn number(&self) -> u32 {
         self.front
     }
 
-    fn begin(&self, alloc: Global, _farm: &M) -> ConnState {
+    fn begin(&self, alloc: Global) -> ConnState {
         ConnState {
             part: Vec::new(alloc),
         }
     }
 
-    fn hear<R: Wait>(
+    fn hear<R: Wait, M: Farm>(
         context: &Context<'_, R, M, Control<'a>>,
         seat: &mut M::Seat,
-        _conn: u32,
         conn_state: &mut ConnState,
-        piece: &[u8],
+        piece: &Piece<'_>,
         response: &mut Vec<u8>,
     ) -> Result<Disposition, Worn> {
-        hear_piece(context, seat, &mut conn_state.part, piece, response)
+        hear_piece(context, seat, &mut conn_state.part, piece.bytes, response)
     }
 
     /// No ask is made, so no reply is for this front.
-    fn reply<R: Wait>(
+    fn reply<R: Wait, M: Farm>(
         _context: &Context<'_, R, M, Control<'a>>,
         _seat: &mut M::Seat,
         _conn_state: &mut ConnState,
@@ -64,7 +63,7 @@ impl<'a, M: Farm> Front<M> for Control<'a> {
         Ok(Disposition::Stays)
     }
 
-    fn is_done(&self, _farm: &M, _conn_state: &ConnState) -> bool {
+    fn is_done(&self, _conn_state: &ConnState) -> bool {
         false
     }
 }

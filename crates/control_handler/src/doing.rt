@@ -4,10 +4,9 @@ ghost use Rattle.plain_world.specs.World.{IsTile};
 ghost use Rattle.plain_world.specs.declared.world.Tile.{Tile};
 ghost use Rattle.farm_history.specs.Entries.{Entry};
 ghost use Rattle.front_loop.specs.Calls.{SameSeat};
-ghost use Rattle.front_loop.specs.Front.{disposition_of};
 ghost use Rattle.front_loop.specs.declared.dispositions.Disposition.TheVariants as disposition;
 ghost use Rattle.front_loop.specs.declared.dispositions.Reason.TheVariants as reason;
-ghost use Rattle.control_handler.specs.inner.Doing.{Did};
+ghost use Rattle.control_handler.specs.inner.Doing.{Did, DidLine};
 ghost use Rattle.control_handler.specs.declared.acts.Line.TheVariants as line_is;
 
 use crate::acts::Line;
@@ -16,6 +15,7 @@ use crate::control::Control;
 use crate::expiring::expire_all;
 use expiry_lists::TileList;
 use farm_base::Worn;
+use farm_events::{Count, Renew, Restyle, Stop, Update};
 use front_loop::{Context, Disposition, Farm};
 use plain_world::Tile;
 use std::sync::Wait;
@@ -39,9 +39,8 @@ fn do_expire<R: Wait, M: Farm>(
     requires { (M.seats context.now.farm.now).is_seat seat.old }
     ensures seat { SameSeat (M.seats context.now.farm.now) seat.old seat.new }
     ensures worn { OnErr result ((M.seats context.now.farm.now).worn seat.new ≡ true) }
-    ensures did { (front : ℕ) (c : ℕ)
-        → Did front context.now.front.now.lists.now c (line_is.Expire number ∷ []) ((M.seats context.now.farm.now).mine seat.old)
-        ((M.seats context.now.farm.now).mine seat.new) response.old.items response.new.items (disposition_of result) }
+    ensures did { DidLine (M.seats context.now.farm.now) context.now.front.now.lists.now
+        (line_is.Expire number) seat.old seat.new response.old.items response.new.items result }
 {
     let Some(tiles) = list_at(context.front.lists, number) else {
         return Ok(say(response, "no list\n"));
@@ -55,8 +54,10 @@ fn do_expire<R: Wait, M: Farm>(
 /// A line that is none.
 pub fn do_bad(response: &mut Vec<u8>) -> Disposition
     ensures did { (front : ℕ) (lists : List (List Tile)) (c : ℕ) (mine : List Entry)
-        → Did front lists c (line_is.Bad ∷ []) mine mine response.old.items response.new.items result }
-    ensures lacks { result ≡ disposition.Leaves reason.Starved → response.new.items ≡ response.old.items }
+        → Did front lists c (line_is.Bad ∷ []) mine mine response.old.items response.new.items
+        result }
+    ensures lacks { result ≡ disposition.Leaves reason.Starved
+        → response.new.items ≡ response.old.items }
 {
     say(response, "bad line\n")
 }
@@ -71,38 +72,41 @@ pub fn do_line<R: Wait, M: Farm>(
     requires { (M.seats context.now.farm.now).is_seat seat.old }
     ensures seat { SameSeat (M.seats context.now.farm.now) seat.old seat.new }
     ensures worn { OnErr result ((M.seats context.now.farm.now).worn seat.new ≡ true) }
-    ensures did { (front : ℕ) (c : ℕ)
-        → Did front context.now.front.now.lists.now c (line ∷ []) ((M.seats context.now.farm.now).mine seat.old)
-        ((M.seats context.now.farm.now).mine seat.new) response.old.items response.new.items (disposition_of result) }
+    ensures did { DidLine (M.seats context.now.farm.now) context.now.front.now.lists.now line
+        seat.old seat.new response.old.items response.new.items result }
 {
+    let alloc = context.alloc;
     match line {
         Line::Update(number) => {
-            let Ok(answer) = context.farm.update(context.rt, context.alloc, seat, number) else {
+            let Ok(answer) = context
+                .farm
+                .turn(context.rt, seat, Update { alloc, number })
+            else {
                 return Err(Worn);
             };
-            Ok(say_update(context.alloc, answer, response))
+            Ok(say_update(alloc, answer, response))
         }
         Line::Restyle(number) => {
-            let Ok(answer) = context.farm.restyle(context.rt, seat, number) else {
+            let Ok(answer) = context.farm.turn(context.rt, seat, Restyle { number }) else {
                 return Err(Worn);
             };
-            Ok(say_restyle(context.alloc, answer, response))
+            Ok(say_restyle(alloc, answer, response))
         }
         Line::Renew(number) => {
-            let Ok(answer) = context.farm.renew(context.rt, context.alloc, seat, number) else {
+            let Ok(answer) = context.farm.turn(context.rt, seat, Renew { alloc, number }) else {
                 return Err(Worn);
             };
-            Ok(say_renew(context.alloc, answer, response))
+            Ok(say_renew(alloc, answer, response))
         }
         Line::Expire(number) => do_expire(context, seat, number, response),
         Line::Stats => {
-            let Ok(totals) = context.farm.tally(context.rt, seat) else {
+            let Ok(totals) = context.farm.turn(context.rt, seat, Count) else {
                 return Err(Worn);
             };
-            Ok(say_tally(context.alloc, totals, response))
+            Ok(say_tally(alloc, totals, response))
         }
         Line::Stop => {
-            let Ok(()) = context.farm.stop(context.rt, seat) else {
+            let Ok(()) = context.farm.turn(context.rt, seat, Stop) else {
                 return Err(Worn);
             };
             Ok(say(response, "stopping\n"))

@@ -5,6 +5,7 @@ ghost use Rattle.plain_world.specs.World.{IsTile};
 ghost use Rattle.control_handler.specs.inner.Doing.{Expired};
 
 use farm_base::Worn;
+use farm_events::Expire;
 use front_loop::Farm;
 use plain_world::Tile;
 use std::sync::Wait;
@@ -20,11 +21,12 @@ pub fn expire_all<R: Wait, M: Farm>(
     requires tiles { All IsTile tiles.now }
     ensures seat { SameSeat (M.seats farm.now) seat.old seat.new }
     ensures worn { OnErr result ((M.seats farm.now).worn seat.new ≡ true) }
-    ensures expired { Expired tiles.now ((M.seats farm.now).mine seat.old) ((M.seats farm.now).mine seat.new) result }
+    ensures expired { Expired tiles.now ((M.seats farm.now).mine seat.old)
+        ((M.seats farm.now).mine seat.new) result }
 {
     let mut total: u64 = 0;
     for tile in tiles {
-        let Ok(count) = farm.expire(rt, seat, *tile) else {
+        let Ok(count) = farm.turn(rt, seat, Expire { tile: *tile }) else {
             return Err(Worn);
         };
         total = total.saturating_add(count);

@@ -2,13 +2,12 @@
 ghost use Rattle.std.specs.Prelude.{◌≡◌, ◌∷◌, [], ℕ, List, true, OnErr, length, nat_lt};
 ghost use Rattle.farm_base.specs.Limits.{most_control_bytes};
 ghost use Rattle.front_loop.specs.Calls.{SameSeat};
-ghost use Rattle.front_loop.specs.Front.{disposition_of};
 ghost use Rattle.front_loop.specs.declared.dispositions.Disposition.TheVariants as disposition;
 ghost use Rattle.front_loop.specs.declared.dispositions.Reason.TheVariants as reason;
 ghost use Rattle.plain_world.specs.declared.world.Tile.{Tile};
 ghost use Rattle.farm_history.specs.Entries.{Entry};
 ghost use Rattle.control_handler.specs.declared.acts.Line.TheVariants as line_is;
-ghost use Rattle.control_handler.specs.inner.Doing.{Did, LongWhy, Says, as_done, Heeds};
+ghost use Rattle.control_handler.specs.inner.Doing.{Did, LongWhy, Says, as_done, HeedsBytes};
 
 use crate::control::Control;
 use crate::doing::{do_bad, do_line};
@@ -25,9 +24,11 @@ pub struct ConnState {
 
 fn too_long(response: &mut Vec<u8>) -> Disposition
     ensures did { (front : ℕ) (lists : List (List Tile)) (c : ℕ) (mine : List Entry)
-        → Did front lists c (line_is.Bad ∷ []) mine mine response.old.items response.new.items (as_done result) }
+        → Did front lists c (line_is.Bad ∷ []) mine mine response.old.items response.new.items
+        (as_done result) }
     ensures long { LongWhy true result }
-    ensures lacks { result ≡ disposition.Leaves reason.Starved → response.new.items ≡ response.old.items }
+    ensures lacks { result ≡ disposition.Leaves reason.Starved
+        → response.new.items ≡ response.old.items }
 {
     match do_bad(response) {
         Disposition::Stays => Disposition::Leaves(Reason::Unread),
@@ -60,8 +61,9 @@ fn take_byte<R: Wait, M: Farm>(
     requires { (M.seats context.now.farm.now).is_seat seat.old }
     ensures seat { SameSeat (M.seats context.now.farm.now) seat.old seat.new }
     ensures worn { OnErr result ((M.seats context.now.farm.now).worn seat.new ≡ true) }
-    ensures heeds { (front : ℕ) (c : ℕ)
-        → Heeds front context.now.front.now.lists.now c part.old.items (byte ∷ []) ((M.seats context.now.farm.now).mine seat.old) ((M.seats context.now.farm.now).mine seat.new) part.new.items response.old.items response.new.items (disposition_of result) }
+    ensures heeds { HeedsBytes (M.seats context.now.farm.now) context.now.front.now.lists.now
+        part.old.items (byte ∷ []) seat.old seat.new part.new.items response.old.items
+        response.new.items result }
 {
     if byte == b'\n' {
         let line = line_in(part.as_slice());
@@ -85,8 +87,9 @@ pub fn hear_piece<R: Wait, M: Farm>(
     requires { (M.seats context.now.farm.now).is_seat seat.old }
     ensures seat { SameSeat (M.seats context.now.farm.now) seat.old seat.new }
     ensures worn { OnErr result ((M.seats context.now.farm.now).worn seat.new ≡ true) }
-    ensures heeds { (front : ℕ) (c : ℕ)
-        → Heeds front context.now.front.now.lists.now c part.old.items piece.now ((M.seats context.now.farm.now).mine seat.old) ((M.seats context.now.farm.now).mine seat.new) part.new.items response.old.items response.new.items (disposition_of result) }
+    ensures heeds { HeedsBytes (M.seats context.now.farm.now) context.now.front.now.lists.now
+        part.old.items piece.now seat.old seat.new part.new.items response.old.items
+        response.new.items result }
 {
     for byte in piece {
         let Ok(disposition) = take_byte(context, seat, part, *byte, response) else {

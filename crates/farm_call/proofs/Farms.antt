@@ -23,7 +23,7 @@ use Rattle.farm_saved.specs.Writing.{saved_bytes}
 use Rattle.farm_refinement.specs.Seen.{FarmSeen}
 use Rattle.farm_core.specs.Answers.{at_saved}
 use Rattle.farm_core.specs.Begins.{Tells, origin}
-use Rattle.farm_shared.specs.declared.turned.LastingPart.{LastingPart}
+use Rattle.farm_events.specs.declared.lasting.LastingPart.{LastingPart}
 use Rattle.farm_shared.specs.Seats.{plain}
 use Rattle.farm_shared.specs.Shared.{lasting_of, past, MayTell}
 use Rattle.turn_cell.specs.Turns.{by}

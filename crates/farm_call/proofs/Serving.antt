@@ -26,7 +26,7 @@ use Rattle.farm_refinement.specs.Stands.{StandsFor, failures}
 use Rattle.script_answers.specs.Answers.{tally_line}
 use Rattle.farm_shared.specs.Shared.{lasting_of, past}
 use Rattle.farm_runs.specs.declared.each_front.EachFront.{EachFront}
-use Rattle.farm_shared.specs.declared.turned.LastingPart.{LastingPart}
+use Rattle.farm_events.specs.declared.lasting.LastingPart.{LastingPart}
 use Rattle.farm_call.specs.Listens.{ListenEnds, Listening, listen_end}
 use Rattle.tile_paths.specs.Paths.{saved_path}
 use Rattle.farm_call.specs.Beginnings.{HasBegun, CannotBegin, IsSavedIn, RefusesFor, ResumesFrom, resumed_by}

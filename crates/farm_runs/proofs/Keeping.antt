@@ -20,7 +20,7 @@ use Rattle.port_events.specs.Told.{PortsTold}
 use Rattle.turn_cell.specs.Turns.{by, NoneAbove, HasJoined, StartsWith}
 use Rattle.turn_cell.proofs.Logs.{starts_through}
 use Rattle.turn_cell.specs.SeatStates.{Made, SeatState, SameSeat, Knows, worn_out}
-use Rattle.farm_shared.specs.declared.turned.LastingPart.{LastingPart}
+use Rattle.farm_events.specs.declared.lasting.LastingPart.{LastingPart}
 use Rattle.farm_shared.specs.declared.turned.Turned.{Turned}
 use Rattle.farm_shared.specs.Seats.{plain}
 use Rattle.farm_core.specs.Begins.{Tells}

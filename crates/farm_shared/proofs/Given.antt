@@ -14,12 +14,13 @@ use Rattle.turn_cell.specs.Turns.{by}
 use Rattle.turn_cell.proofs.Logs.{by-own}
 use Rattle.turn_cell.specs.SeatStates.{Made, SeatState, Closes, Took, worn_out}
 use Rattle.farm_base.specs.declared.turns.Worn.{Worn}
-use Rattle.farm_shared.specs.declared.turned.LastingPart.{LastingPart}
+use Rattle.farm_events.specs.declared.lasting.LastingPart.{LastingPart}
 use Rattle.farm_shared.specs.declared.turned.Turned.{Turned}
-use Rattle.farm_shared.specs.Seats.{plain, ends_ticket, is_ended_by}
-use Rattle.farm_shared.specs.Shared.{lasting_of, lasts, IsAfter, HasJob, IfReply, OwnReply, IsClosed, IsLegalSo}
-use Rattle.farm_shared.specs.inner.Turns.{is_ended, own_of, GivesJob, GivesReply}
-use Rattle.farm_shared.proofs.Orders.{reverse_more, own_by}
+use Rattle.farm_events.specs.Seats.{plain, ends_ticket, is_ended_by}
+use Rattle.farm_events.specs.Afters.{lasting_of, IsAfter, HasJob}
+use Rattle.farm_shared.specs.Shared.{lasts, OwnReply, IsClosed, IsLegalSo}
+use Rattle.farm_events.specs.Promises.{is_ended, own_of, IfReply, GivesJob, GivesReply}
+use Rattle.farm_events.proofs.Orders.{reverse_more, own_by}
 
 -- without a Finish of anybody there is none of a seat
 none_by : (n t : ℕ) (xs : List (ℕ × Entry)) → is_ended t xs ≡ false → is_ended_by n t xs ≡ false
@@ -34,7 +35,7 @@ none_by n t (x ∷ xs) none = go (ends_ticket x.1 t) (x.0 == n) (none_by n t xs)
 module _ {D : Type 0} (state : D → Outside StoreTold) where
   -- a job that a turn gave is the seat's to finish
   job_given : (part : LastingPart D) (worker n : ℕ) (job : JobSeen) (log seen : List (ℕ × Entry)) → seen ≡ log ++ (n, Claim worker (Job job.ticket (job_key job) job.version)) ∷ [] →
-      GivesJob worker (Claimed.Job job) log part → IsValidJob job × (job.worker ≡ worker) × HasJob part n seen job
+      GivesJob worker (Claimed.Job job) log part.plan part.saved → IsValidJob job × (job.worker ≡ worker) × HasJob part n seen job
   job_given part worker n job log seen is gives = (
     gives.0,
     gives.1,
@@ -54,7 +55,7 @@ module _ {D : Type 0} (state : D → Outside StoreTold) where
       turned = ap reverse is ∙ (reverse_more log _ ∙ ap (λ w. (n, Claim w (Job job.ticket (job_key job) job.version)) ∷ reverse log) (sym gives.1))
 
   pub claim_given : (made : Made (Turned D)) (worker : ℕ) (answer : Claimed) (v w : SeatState (Turned D) Entry) → w.number ≡ v.number →
-      Took (λ t log. IsAfter state t.farm log) (λ t. lasting_of state t.farm) made.about (Claim worker (claim_answer answer)) (GivesJob worker answer) v w →
+      Took (λ t log. IsAfter state t.farm log) (λ t. lasting_of state t.farm) made.about (Claim worker (claim_answer answer)) (λ log part. GivesJob worker answer log part.plan part.saved) v w →
       IfJob answer (λ job. IsValidJob job × (job.worker ≡ worker) × HasJob (lasts state made) w.number w.seen job)
   claim_given made worker (Claimed.Job job) v w same t =
       subst (λ n. IsValidJob job × (job.worker ≡ worker) × HasJob (lasts state made) n w.seen job) (sym same) (job_given (lasts state made) worker v.number job t.log w.seen t.seen t.promised)
@@ -86,7 +87,7 @@ module _ {D : Type 0} (state : D → Outside StoreTold) where
   -- The same, of a turn that may be worn out.
 
   pub claims_given : (made : Made (Turned D)) (worker : ℕ) (v w : SeatState (Turned D) Entry) (r : Result Claimed Worn) → w.number ≡ v.number →
-      MatchResult r (λ answer. Took (λ t log. IsAfter state t.farm log) (λ t. lasting_of state t.farm) made.about (Claim worker (claim_answer answer)) (GivesJob worker answer) v w) (λ _. w ≡ worn_out v) →
+      MatchResult r (λ answer. Took (λ t log. IsAfter state t.farm log) (λ t. lasting_of state t.farm) made.about (Claim worker (claim_answer answer)) (λ log part. GivesJob worker answer log part.plan part.saved) v w) (λ _. w ≡ worn_out v) →
       IfOk r (λ answer. IfJob answer (λ job. IsValidJob job × (job.worker ≡ worker) × HasJob (lasts state made) w.number w.seen job))
   claims_given made worker v w (Ok answer) same t = claim_given made worker answer v w same t
   claims_given made worker v w (Err worn) same t = tt

@@ -1,6 +1,7 @@
 //! Who is to be woken when something happened.
 use crossbeam_utils::sync::Unparker;
 use farm_base::{Bell, Bells};
+use farm_events::Wakes;
 
 /// The sleeping workers and the three fronts. It is made of references alone, so every thread may have one of
 /// its own.
@@ -13,12 +14,26 @@ pub struct Alarms<'a, B> {
 }
 
 impl<'a, B: Bell> Alarms<'a, B> {
-    /// Wakes all. It promises nothing, since no contract knows who sleeps: who is woken looks for work whatever woke
-    /// it.
-    pub fn ring_all(&self) {
+    /// Wakes whom an event says. It promises nothing, as the other two.
+    pub fn ring(&self, whom: Wakes) {
+        match whom {
+            Wakes::Nobody => {}
+            Wakes::Workers => self.unpark_workers(),
+            Wakes::Fronts => self.ring_fronts(),
+            Wakes::Everybody => self.ring_all(),
+        }
+    }
+
+    fn unpark_workers(&self) {
         for worker in self.workers {
             worker.unpark();
         }
+    }
+
+    /// Wakes all. It promises nothing, since no contract knows who sleeps: who is woken looks for work whatever woke
+    /// it.
+    pub fn ring_all(&self) {
+        self.unpark_workers();
         self.ring_fronts();
     }
 

@@ -5,83 +5,10 @@ ghost use Rattle.farm_shared.specs.Shared.{Adds, IsLegalSo, OwnReply, lasts};
 ghost use Rattle.turn_cell.specs.SeatStates.{IsSeatOf, Knows, SameSeat, worn_out};
 
 use crate::shared::{Seat, SharedFarm};
-use crate::turned::Turned;
 use farm_plan::{AskAnswer, Cmd, Collected, Conn, Spot};
 use std::sync::Wait;
 use tile_store::TileStore;
-use turn_cell::{Call, Worn};
-
-/// An ask, as a turn.
-#[derive(Drop)]
-struct AskTurn {
-    conn: Conn,
-    cmd: Cmd,
-    spot: Spot,
-}
-
-impl<D: TileStore> Call<Turned<D>> for AskTurn {
-    ghost use Rattle.std.specs.Prelude.{◌≡◌, ◌+◌, ⊤};
-    ghost use Rattle.farm_history.specs.Entries.{Ask};
-
-    type Answer = AskAnswer;
-
-    ghost entry = { λ c answer. Ask c.conn c.cmd c.spot answer };
-
-    ghost need = { λ c n _ _. n ≡ c.conn.front + 1 };
-
-    ghost promise = { λ _ _ _ _. ⊤ };
-
-    fn run(self, value: &mut Turned<D>) -> AskAnswer {
-        value.farm.ask(self.conn, self.cmd, self.spot)
-    }
-}
-
-/// A Collect, as a turn.
-#[derive(Drop)]
-struct CollectTurn {
-    front: u32,
-}
-
-impl<D: TileStore> Call<Turned<D>> for CollectTurn {
-    ghost use Rattle.std.specs.Prelude.{◌≡◌, ◌+◌};
-    ghost use Rattle.farm_history.specs.Entries.{Collect};
-    ghost use Rattle.farm_shared.specs.inner.Turns.{GivesReply};
-
-    type Answer = Collected;
-
-    ghost entry = { λ c answer. Collect c.front answer };
-
-    ghost need = { λ c n _ _. n ≡ c.front + 1 };
-
-    ghost promise = { λ c answer log _. GivesReply c.front answer log };
-
-    fn run(self, value: &mut Turned<D>) -> Collected {
-        value.farm.collect(self.front)
-    }
-}
-
-/// A Leave, as a turn.
-#[derive(Drop)]
-struct LeaveTurn {
-    conn: Conn,
-}
-
-impl<D: TileStore> Call<Turned<D>> for LeaveTurn {
-    ghost use Rattle.std.specs.Prelude.{◌≡◌, ◌+◌, ⊤};
-    ghost use Rattle.farm_history.specs.Entries.{Leave};
-
-    type Answer = u32;
-
-    ghost entry = { λ c answer. Leave c.conn answer };
-
-    ghost need = { λ c n _ _. n ≡ c.conn.front + 1 };
-
-    ghost promise = { λ _ _ _ _. ⊤ };
-
-    fn run(self, value: &mut Turned<D>) -> u32 {
-        value.farm.leave(self.conn)
-    }
-}
+use turn_cell::Worn;
 
 impl<D: TileStore> SharedFarm<D> {
     /// A connection asks for the metatile of a spot, as `Farm::ask`. The seat is that of the connection's front: its
@@ -102,7 +29,7 @@ impl<D: TileStore> SharedFarm<D> {
         ensures turn { MatchResult result (λ answer. Adds (Ask conn cmd spot answer) seat.old seat.new) (λ _. seat.new ≡ worn_out seat.old) }
         ensures legal { IfOk result (λ _. IsLegalSo D.state (lasts D.state self.now) seat.new.seen) }
     {
-        self.take(rt, seat, AskTurn { conn, cmd, spot })
+        self.turn(rt, seat, farm_events::Ask { conn, cmd, spot })
     }
 
     /// A front takes the first of its replies, as `Farm::collect`, through its own seat. A reply is that of an ask
@@ -122,7 +49,7 @@ impl<D: TileStore> SharedFarm<D> {
         ensures legal { IfOk result (λ _. IsLegalSo D.state (lasts D.state self.now) seat.new.seen) }
         ensures own { IfOk result (λ answer. OwnReply front seat.old.mine answer) }
     {
-        self.take(rt, seat, CollectTurn { front })
+        self.turn(rt, seat, farm_events::Collect { front })
     }
 
     /// Forgets the open asks of a connection, as `Farm::leave`, through the seat of its front.
@@ -135,6 +62,6 @@ impl<D: TileStore> SharedFarm<D> {
         ensures turn { MatchResult result (λ answer. Adds (Leave conn answer) seat.old seat.new) (λ _. seat.new ≡ worn_out seat.old) }
         ensures legal { IfOk result (λ _. IsLegalSo D.state (lasts D.state self.now) seat.new.seen) }
     {
-        self.take(rt, seat, LeaveTurn { conn })
+        self.turn(rt, seat, farm_events::Leave { conn })
     }
 }

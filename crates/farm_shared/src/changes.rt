@@ -6,129 +6,12 @@ ghost use Rattle.turn_cell.specs.SeatStates.{IsSeatOf, Knows, SameSeat, worn_out
 ghost use Rattle.plain_world.specs.World.{IsTile};
 
 use crate::shared::{Seat, SharedFarm};
-use crate::turned::Turned;
 use farm_plan::{Renewed, Restyled, Updated};
 use plain_world::Tile;
 use std::alloc::Global;
 use std::sync::Wait;
 use tile_store::TileStore;
-use turn_cell::{Call, Worn};
-
-/// An Update, as a turn.
-#[derive(Drop)]
-struct UpdateTurn {
-    alloc: Global,
-    number: u32,
-}
-
-impl<D: TileStore> Call<Turned<D>> for UpdateTurn {
-    ghost use Rattle.std.specs.Prelude.{⊤};
-    ghost use Rattle.farm_history.specs.Entries.{Update};
-
-    type Answer = Updated;
-
-    ghost entry = { λ c answer. Update c.number answer };
-
-    ghost need = { λ _ _ _ _. ⊤ };
-
-    ghost promise = { λ _ _ _ _. ⊤ };
-
-    fn run(self, value: &mut Turned<D>) -> Updated {
-        value.farm.update(self.alloc, self.number)
-    }
-}
-
-/// A Renew, as a turn.
-#[derive(Drop)]
-struct RenewTurn {
-    alloc: Global,
-    number: u32,
-}
-
-impl<D: TileStore> Call<Turned<D>> for RenewTurn {
-    ghost use Rattle.std.specs.Prelude.{⊤};
-    ghost use Rattle.farm_history.specs.Entries.{Renew};
-
-    type Answer = Renewed;
-
-    ghost entry = { λ c answer. Renew c.number answer };
-
-    ghost need = { λ _ _ _ _. ⊤ };
-
-    ghost promise = { λ _ _ _ _. ⊤ };
-
-    fn run(self, value: &mut Turned<D>) -> Renewed {
-        value.farm.renew(self.alloc, self.number)
-    }
-}
-
-/// A Restyle, as a turn.
-#[derive(Drop)]
-struct RestyleTurn {
-    number: u32,
-}
-
-impl<D: TileStore> Call<Turned<D>> for RestyleTurn {
-    ghost use Rattle.std.specs.Prelude.{⊤};
-    ghost use Rattle.farm_history.specs.Entries.{Restyle};
-
-    type Answer = Restyled;
-
-    ghost entry = { λ c answer. Restyle c.number answer };
-
-    ghost need = { λ _ _ _ _. ⊤ };
-
-    ghost promise = { λ _ _ _ _. ⊤ };
-
-    fn run(self, value: &mut Turned<D>) -> Restyled {
-        value.farm.restyle(self.number)
-    }
-}
-
-/// An Expire, as a turn.
-#[derive(Drop)]
-struct ExpireTurn {
-    tile: Tile,
-}
-
-impl<D: TileStore> Call<Turned<D>> for ExpireTurn {
-    ghost use Rattle.std.specs.Prelude.{⊤};
-    ghost use Rattle.farm_history.specs.Entries.{Expire};
-    ghost use Rattle.plain_world.specs.World.{IsTile};
-
-    type Answer = u64;
-
-    ghost entry = { λ c answer. Expire c.tile answer };
-
-    ghost need = { λ c _ _ _. IsTile c.tile };
-
-    ghost promise = { λ _ _ _ _. ⊤ };
-
-    fn run(self, value: &mut Turned<D>) -> u64 {
-        value.farm.expire(self.tile)
-    }
-}
-
-/// The Stop, as a turn.
-#[derive(Drop)]
-struct StopTurn;
-
-impl<D: TileStore> Call<Turned<D>> for StopTurn {
-    ghost use Rattle.std.specs.Prelude.{⊤};
-    ghost use Rattle.farm_history.specs.Entries.{Stop};
-
-    type Answer = ();
-
-    ghost entry = { λ _ _. Stop };
-
-    ghost need = { λ _ _ _ _. ⊤ };
-
-    ghost promise = { λ _ _ _ _. ⊤ };
-
-    fn run(self, value: &mut Turned<D>) -> () {
-        value.farm.stop()
-    }
-}
+use turn_cell::Worn;
 
 impl<D: TileStore> SharedFarm<D> {
     /// Applies the update of the number to the newest data, as `Farm::update`.
@@ -146,7 +29,7 @@ impl<D: TileStore> SharedFarm<D> {
         ensures turn { MatchResult result (λ answer. Adds (Update number answer) seat.old seat.new) (λ _. seat.new ≡ worn_out seat.old) }
         ensures legal { IfOk result (λ _. IsLegalSo D.state (lasts D.state self.now) seat.new.seen) }
     {
-        self.take(rt, seat, UpdateTurn { alloc, number })
+        self.turn(rt, seat, farm_events::Update { alloc, number })
     }
 
     /// Applies the update of the number and expires what it reaches, as `Farm::renew`.
@@ -164,7 +47,7 @@ impl<D: TileStore> SharedFarm<D> {
         ensures turn { MatchResult result (λ answer. Adds (Renew number answer) seat.old seat.new) (λ _. seat.new ≡ worn_out seat.old) }
         ensures legal { IfOk result (λ _. IsLegalSo D.state (lasts D.state self.now) seat.new.seen) }
     {
-        self.take(rt, seat, RenewTurn { alloc, number })
+        self.turn(rt, seat, farm_events::Renew { alloc, number })
     }
 
     /// Gives a map the style of the number, as `Farm::restyle`.
@@ -181,7 +64,7 @@ impl<D: TileStore> SharedFarm<D> {
         ensures turn { MatchResult result (λ answer. Adds (Restyle number answer) seat.old seat.new) (λ _. seat.new ≡ worn_out seat.old) }
         ensures legal { IfOk result (λ _. IsLegalSo D.state (lasts D.state self.now) seat.new.seen) }
     {
-        self.take(rt, seat, RestyleTurn { number })
+        self.turn(rt, seat, farm_events::Restyle { number })
     }
 
     /// Expires a tile, as `Farm::expire`.
@@ -194,7 +77,7 @@ impl<D: TileStore> SharedFarm<D> {
         ensures turn { MatchResult result (λ answer. Adds (Expire t answer) seat.old seat.new) (λ _. seat.new ≡ worn_out seat.old) }
         ensures legal { IfOk result (λ _. IsLegalSo D.state (lasts D.state self.now) seat.new.seen) }
     {
-        self.take(rt, seat, ExpireTurn { tile: t })
+        self.turn(rt, seat, farm_events::Expire { tile: t })
     }
 
     /// Stops the farm for good, as `Farm::stop`.
@@ -206,6 +89,6 @@ impl<D: TileStore> SharedFarm<D> {
         ensures turn { MatchResult result (λ answer. Adds (Stop) seat.old seat.new) (λ _. seat.new ≡ worn_out seat.old) }
         ensures legal { IfOk result (λ _. IsLegalSo D.state (lasts D.state self.now) seat.new.seen) }
     {
-        self.take(rt, seat, StopTurn)
+        self.turn(rt, seat, farm_events::Stop)
     }
 }

@@ -1,71 +1,19 @@
 //! What workers do: claims and ends of drawings.
 ghost use Rattle.std.specs.Prelude.{◌≡◌, IfOk, MatchResult};
 ghost use Rattle.farm_history.specs.Entries.{Claim, Finish};
-ghost use Rattle.farm_shared.specs.Shared.{Adds, HasJob, IsLegalSo, lasts};
+ghost use Rattle.farm_events.specs.Afters.{HasJob};
+ghost use Rattle.farm_shared.specs.Shared.{Adds, IsLegalSo, lasts};
 ghost use Rattle.turn_cell.specs.SeatStates.{IsSeatOf, Knows, SameSeat, worn_out};
 ghost use Rattle.farm_core.specs.Answers.{IfJob, IsDrawingOf, claim_answer, is_drawn};
 ghost use Rattle.farm_plan.specs.Jobs.{IsValidJob};
 
 use crate::shared::{Seat, SharedFarm};
-use crate::turned::Turned;
 use farm_core::{Claimed, Drawn, Job};
 use farm_plan::Finished;
 use std::alloc::Global;
 use std::sync::Wait;
 use tile_store::TileStore;
-use turn_cell::{Call, Worn};
-
-/// A Claim, as a turn.
-#[derive(Drop)]
-struct ClaimTurn {
-    worker: u32,
-}
-
-impl<D: TileStore> Call<Turned<D>> for ClaimTurn {
-    ghost use Rattle.std.specs.Prelude.{⊤};
-    ghost use Rattle.farm_history.specs.Entries.{Claim};
-    ghost use Rattle.farm_core.specs.Answers.{claim_answer};
-    ghost use Rattle.farm_shared.specs.inner.Turns.{GivesJob};
-
-    type Answer = Claimed;
-
-    ghost entry = { λ c answer. Claim c.worker (claim_answer answer) };
-
-    ghost need = { λ _ _ _ _. ⊤ };
-
-    ghost promise = { λ c answer log part. GivesJob c.worker answer log part };
-
-    fn run(self, value: &mut Turned<D>) -> Claimed {
-        value.farm.claim(self.worker)
-    }
-}
-
-/// The end of a drawing, as a turn.
-#[derive(Drop)]
-struct FinishTurn {
-    alloc: Global,
-    job: Job,
-    drawn: Drawn,
-}
-
-impl<D: TileStore> Call<Turned<D>> for FinishTurn {
-    ghost use Rattle.std.specs.Prelude.{⊤};
-    ghost use Rattle.farm_history.specs.Entries.{Finish};
-    ghost use Rattle.farm_core.specs.Answers.{IsDrawingOf, is_drawn};
-    ghost use Rattle.farm_shared.specs.Shared.{HasJob};
-
-    type Answer = Finished;
-
-    ghost entry = { λ c answer. Finish c.job.ticket (is_drawn c.drawn) answer };
-
-    ghost need = { λ c n seen part. HasJob part n seen c.job × IsDrawingOf c.job c.drawn };
-
-    ghost promise = { λ _ _ _ _. ⊤ };
-
-    fn run(self, value: &mut Turned<D>) -> Finished {
-        value.farm.finish(self.alloc, self.job, self.drawn)
-    }
-}
+use turn_cell::Worn;
 
 impl<D: TileStore> SharedFarm<D> {
     /// A worker, by its number, asks for a drawing to make, as `Farm::claim`. A job is the seat's to finish.
@@ -79,7 +27,7 @@ impl<D: TileStore> SharedFarm<D> {
         ensures job { IfOk result (λ answer. IfJob answer (λ job.
             IsValidJob job × (job.worker ≡ worker) × HasJob (lasts D.state self.now) seat.new.number seat.new.seen job)) }
     {
-        self.take(rt, seat, ClaimTurn { worker })
+        self.turn(rt, seat, farm_events::Claim { worker })
     }
 
     /// A worker hands back its drawing, as `Farm::finish`. A Claim among the seat's own entries gave the job, and no
@@ -102,6 +50,6 @@ impl<D: TileStore> SharedFarm<D> {
         ensures turn { MatchResult result (λ answer. Adds (Finish job.ticket (is_drawn drawn) answer) seat.old seat.new) (λ _. seat.new ≡ worn_out seat.old) }
         ensures legal { IfOk result (λ _. IsLegalSo D.state (lasts D.state self.now) seat.new.seen) }
     {
-        self.take(rt, seat, FinishTurn { alloc, job, drawn })
+        self.turn(rt, seat, farm_events::Finish { alloc, job, drawn })
     }
 }

@@ -5,20 +5,23 @@ ghost use Rattle.farm_base.specs.Limits.{most_turns};
 ghost use Rattle.farm_refinement.specs.Stands.{StandsFor};
 ghost use Rattle.farm_shared.specs.inner.Turns.{AreNames};
 ghost use Rattle.farm_core.specs.Begins.{origin};
-ghost use Rattle.farm_shared.specs.Shared.{Adds, IsAfter, IsClosed, IsLegalSo, MayTell, lasting_of, lasts, maps_of};
+ghost use Rattle.farm_events.specs.Afters.{IsAfter, MayTell, lasting_of};
+ghost use Rattle.farm_events.specs.Needs.{NeedOf};
+ghost use Rattle.farm_shared.specs.Shared.{Adds, IsClosed, IsLegalSo, lasts, maps_of};
 ghost use Rattle.turn_cell.specs.SeatStates.{IsSeatOf, IsWhole, Knows, SameSeat, Took, first_of, joining, split_left, split_right, worn_out};
 ghost use Rattle.turn_cell.specs.Turns.{StartsWith};
 
 use crate::closed::Closed;
-use crate::turned::Turned;
+use crate::turned::{Turn, Turned};
 use farm_base::{MOST_TURNS, NoMemory, Text};
 use farm_core::Farm;
+use farm_events::Event;
 use std::alloc::Global;
 use std::marker::Model;
 use std::snapshot::Snapshot;
 use std::sync::Wait;
 use tile_store::TileStore;
-use turn_cell::{Call, TurnCell, Worn};
+use turn_cell::{TurnCell, Worn};
 
 /// The right to take turns of one shared farm, and what is known of its history. It has no bytes.
 #[derive(Drop)]
@@ -124,26 +127,27 @@ impl<D: TileStore> SharedFarm<D> {
         Some(place as u32)
     }
 
-    /// One turn of the farm through the seat, by which each of its calls is made.
-    pub(crate) fn take<R: Wait, C: Call<Turned<D>>>(
+    /// One turn of the farm through the seat: the event on the farm, with the farm's answer. Each of the other calls
+    /// that take a turn is this one, of its own event.
+    pub fn turn<R: Wait, C: Event>(
         &self,
         rt: &R,
         seat: &mut Seat<D>,
-        call: C,
+        event: C,
     ) -> Result<C::Answer, Worn>
         requires seat { IsSeatOf self.now seat.old }
-        requires need { C.need call seat.old.number seat.old.seen (lasts D.state self.now) }
+        requires need { NeedOf (C.need event) seat.old.number seat.old.seen (lasts D.state self.now) }
         ensures seat { IsSeatOf self.now seat.new }
         ensures same { SameSeat seat.old seat.new }
         ensures known { Knows seat.new }
-        ensures turn { MatchResult result (λ answer. Adds (C.entry call answer) seat.old seat.new) (λ _. seat.new ≡ worn_out seat.old) }
+        ensures turn { MatchResult result (λ answer. Adds (C.entry event answer) seat.old seat.new) (λ _. seat.new ≡ worn_out seat.old) }
         ensures legal { IfOk result (λ _. IsLegalSo D.state (lasts D.state self.now) seat.new.seen) }
         ensures took { MatchResult result
             (λ answer. Took (λ t log. IsAfter D.state t.farm log) (λ t. lasting_of D.state t.farm) self.now.about
-            (C.entry call answer) (C.promise call answer) seat.old seat.new)
+            (C.entry event answer) (λ log part. C.promise event answer log part.plan part.saved) seat.old seat.new)
             (λ _. seat.new ≡ worn_out seat.old) }
     {
-        self.cell.turn(rt, &mut seat.seat, call)
+        self.cell.turn(rt, &mut seat.seat, Turn { event })
     }
 
     /// A new seat, split from the first. Its number is the number of splits, this one included. No memory is

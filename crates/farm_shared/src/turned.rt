@@ -1,20 +1,9 @@
-//! A farm as the lock has it.
-use farm_base::Bytes;
+//! A farm as the lock has it, and an event as a turn of the lock.
 use farm_core::Farm;
-use farm_history::{Event, Saved};
-use farm_plan::FarmPlan;
+use farm_events::{Event, LastingPart};
+use farm_history::Event as Entry;
 use tile_store::TileStore;
-use turn_cell::StandsFor;
-
-/// What no event changes of a farm: its plan, what it was resumed from, its store as it was at the start, and
-/// what the store tells at the path of a saved farm. No value of it is made.
-#[derive(Drop)]
-pub struct LastingPart<D> {
-    pub plan: FarmPlan,
-    pub saved: Option<Saved>,
-    pub first: D,
-    pub beside: Option<Option<Bytes>>,
-}
+use turn_cell::{Call, StandsFor};
 
 /// A farm under the lock.
 #[derive(Drop)]
@@ -23,13 +12,36 @@ pub struct Turned<D> {
 }
 
 impl<D: TileStore> StandsFor for Turned<D> {
-    ghost use Rattle.farm_shared.specs.Shared.{IsAfter, lasting_of};
+    ghost use Rattle.farm_events.specs.Afters.{IsAfter, lasting_of};
 
-    type Entry = Event;
+    type Entry = Entry;
 
     type Lasting = LastingPart<D>;
 
     ghost lasting = { λ t. lasting_of D.state t.farm };
 
     ghost stands = { λ t log. IsAfter D.state t.farm log };
+}
+
+/// An event, as a turn of the lock.
+#[derive(Drop)]
+pub(crate) struct Turn<C> {
+    pub event: C,
+}
+
+impl<D: TileStore, C: Event> Call<Turned<D>> for Turn<C> {
+    ghost use Rattle.farm_events.specs.Needs.{NeedOf};
+
+    type Answer = C::Answer;
+
+    ghost entry = { λ t answer. C.entry t.event answer };
+
+    ghost need = { λ t n seen part. NeedOf (C.need t.event) n seen part };
+
+    ghost promise = { λ t answer log part. C.promise t.event answer log part.plan part.saved };
+
+    fn run(self, value: &mut Turned<D>) -> C::Answer {
+        let Turn { event } = self;
+        event.run(&mut value.farm)
+    }
 }

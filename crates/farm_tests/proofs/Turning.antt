@@ -5,10 +5,10 @@ use Rattle.std.proofs.lemmas.List.{reverse-append}
 use Rattle.farm_history.specs.Entries.{Entry}
 use Rattle.farm_plan.specs.Jobs.{JobSeen}
 use Rattle.turn_cell.specs.SeatStates.{SeatState, SameSeat, worn_out}
-use Rattle.farm_shared.specs.declared.turned.LastingPart.{LastingPart}
+use Rattle.farm_events.specs.declared.lasting.LastingPart.{LastingPart}
 use Rattle.farm_shared.specs.Seats.{ends_ticket, is_ended_by}
 use Rattle.farm_shared.specs.Shared.{Adds, HasJob}
-use Rattle.farm_shared.proofs.Orders.{reverse_more, ended_by}
+use Rattle.farm_events.proofs.Orders.{reverse_more, ended_by}
 
 module _ {D T : Type 0} (part : LastingPart D) where
   -- a job is the seat's to finish until the seat finishes it

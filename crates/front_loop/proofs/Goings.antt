@@ -8,6 +8,7 @@ use Rattle.port_events.specs.declared.events.PortEvent.{PortEvent}
 use Rattle.port_events.specs.declared.events.PortEvent.TheVariants as event
 use Rattle.port_events.specs.declared.ends.FrontEnd.{FrontEnd}
 use Rattle.port_events.specs.declared.ends.FrontEnd.TheVariants as ended
+use Rattle.port_events.specs.declared.ends.FrontDone.{FrontDone}
 use Rattle.port_events.specs.declared.ends.Rest.{Rest}
 use Rattle.port_events.specs.Told.{PortsTold, heard}
 use Rattle.port_events.specs.Boxes.{rest_at, rest_of, as_rest}
@@ -212,3 +213,12 @@ module _ {A W T : Type 0} (R : Rules A W) (K : List ℕ → List (Move A) → T 
   runs_end start w mine' ended.Broken end' worn (told, h, t) (inr (q, m, n)) =
       subst (λ x. RunOf start w mine' x worn) (sym q) (subst (λ es. RunOf start w es ended.Worn worn) (sym m) (broken_worn start w told worn h t n))
   runs_end start w mine' ended.Worn end' worn h s = absurd h
+
+  -- what is handed back of it
+  pub handed_back : (start told : Option PortsTold) (mine : List Entry) (end : FrontEnd) (box : List (ℕ × List ℕ)) (starved front : ℕ) (worn : Bool) (done : FrontDone) → front ≡ R.number → done.end ≡ end
+      → done.rests.items ≡ map (as_rest front) box → done.starved ≡ starved → FrontRun R start told mine end (map (as_rest R.number) box) starved worn
+      → FrontRun R start told mine done.end done.rests.items done.starved worn
+  handed_back start told mine end box starved front worn done n e r s h =
+      subst (λ (x : FrontEnd). FrontRun R start told mine x done.rests.items done.starved worn) (sym e)
+      (subst (λ (xs : List Rest). FrontRun R start told mine end xs done.starved worn) (sym (r ∙ ap (λ m. map (as_rest m) box) n))
+      (subst (λ (x : ℕ). FrontRun R start told mine end (map (as_rest R.number) box) x worn) (sym s) h))

@@ -16,7 +16,8 @@ pub record Seats (S P : Type 0) : Type 1 where
   pub worn : S → Bool
 
 -- an answer has put its entry behind the seat's own; a worn turn has put none, and has left its mark
-abbrev pub Takes : {T : Type 0} → (T → Entry) → List Entry → List Entry → Bool → Result T Worn → Type 0
+abbrev pub Takes : {T : Type 0} → (T → Entry) → List Entry → List Entry → Bool → Result T Worn
+    → Type 0
 Takes entry old new worn (Ok answer) = new ≡ old ++ entry answer ∷ []
 Takes entry old new worn (Err w) = (new ≡ old) × (worn ≡ true)
 
@@ -28,6 +29,7 @@ module _ {S P : Type 0} (F : Seats S P) where
     pub place : F.place new ≡ F.place old
 
   -- one turn on a seat
-  pub record Turns {T : Type 0} (entry : T → Entry) (old new : S) (result : Result T Worn) : Type 0 where
+  pub record Turns {T : Type 0} (entry : T → Entry) (old new : S) (result : Result T Worn)
+      : Type 0 where
     pub same : SameSeat old new
     pub takes : Takes entry (F.mine old) (F.mine new) (F.worn new) result

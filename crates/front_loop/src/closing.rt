@@ -2,6 +2,7 @@
 ghost use Rattle.std.specs.Prelude.{◌≡◌, ◌+◌, ◌-◌, ◌^◌, true, length, min, position, OnErr, OnOk, IfSome, IfNone};
 ghost use Rattle.farm_history.specs.Lists.{Each};
 ghost use Rattle.front_loop.specs.Calls.{SameSeat};
+ghost use Rattle.front_loop.specs.Front.{rules_in};
 ghost use Rattle.front_loop.specs.Rounds.{with_starved};
 ghost use Rattle.front_loop.specs.declared.sessions.Session.{Session};
 ghost use Rattle.front_loop.specs.inner.Sessions as spec;
@@ -17,6 +18,7 @@ use crate::farm::Farm;
 use crate::front::Front;
 use crate::sessions::{Session, SessionTable};
 use farm_base::Worn;
+use farm_events::Leave;
 use farm_history::Conn;
 use port_events::Ports;
 use std::sync::Wait;
@@ -79,7 +81,7 @@ fn starved_after(starved: u64, why: Reason) -> u64
     }
 }
 
-fn close_one<R: Wait, M: Farm, F: Front<M>, P: Ports>(
+fn close_one<R: Wait, M: Farm, F: Front, P: Ports>(
     work: &Context<'_, R, M, F>,
     seat: &mut M::Seat,
     table: &mut SessionTable<F::ConnState>,
@@ -87,26 +89,26 @@ fn close_one<R: Wait, M: Farm, F: Front<M>, P: Ports>(
     left: (usize, u32, Reason),
 ) -> Result<(), Worn>
     requires seat { (M.seats work.now.farm.now).is_seat seat.old }
-    requires number { (M.seats work.now.farm.now).number seat.old ≡ (F.rules work.now.front.now work.now.farm.now).number + 1 }
+    requires number { (M.seats work.now.farm.now).number seat.old
+        ≡ (rules_in F.rules M.map_at work.now).number + 1 }
     requires leaving { IsLeaving table.old.sessions.items left.0 left.1 left.2 }
-    requires ready { MayLeave (F.rules work.now.front.now work.now.farm.now) F.knows (M.seats work.now.farm.now) (at (P.state ports.old) seat.old table.old) }
+    requires ready { MayLeave (rules_in F.rules M.map_at work.now) F.knows
+        (M.seats work.now.farm.now) (at (P.state ports.old) seat.old table.old) }
     ensures seat { SameSeat (M.seats work.now.farm.now) seat.old seat.new }
     ensures worn { OnErr result ((M.seats work.now.farm.now).worn seat.new ≡ true) }
     ensures count { (P.state ports.new).faults ≡ (P.state ports.old).faults }
-    ensures fewer { OnOk result (length table.new.sessions.items + 1 ≡ length table.old.sessions.items) }
-    ensures goes { LeavesOne (F.rules work.now.front.now work.now.farm.now) F.knows (M.seats work.now.farm.now) (at (P.state ports.old) seat.old table.old) (at (P.state ports.new) seat.new table.new) result }
+    ensures fewer { OnOk result
+        (length table.new.sessions.items + 1 ≡ length table.old.sessions.items) }
+    ensures goes { LeavesOne (rules_in F.rules M.map_at work.now) F.knows
+        (M.seats work.now.farm.now) (at (P.state ports.old) seat.old table.old)
+        (at (P.state ports.new) seat.new table.new) result }
 {
     let (place, conn, why) = left;
-    let number = work.front.number(work.farm);
-    let Ok(_asks) = work.farm.leave(
-        work.rt,
-        seat,
-        Conn {
-            front: number,
-            number: conn,
-        },
-    )
-    else {
+    let conn_left = Conn {
+        front: work.front.number(),
+        number: conn,
+    };
+    let Ok(_asks) = work.farm.turn(work.rt, seat, Leave { conn: conn_left }) else {
         return Err(Worn);
     };
     shut(ports, conn, why);
@@ -117,19 +119,23 @@ fn close_one<R: Wait, M: Farm, F: Front<M>, P: Ports>(
 }
 
 /// Leaves every connection that leaves.
-pub fn close_all<R: Wait, M: Farm, F: Front<M>, P: Ports>(
+pub fn close_all<R: Wait, M: Farm, F: Front, P: Ports>(
     work: &Context<'_, R, M, F>,
     seat: &mut M::Seat,
     table: &mut SessionTable<F::ConnState>,
     ports: &mut P,
 ) -> Result<(), Worn>
     requires seat { (M.seats work.now.farm.now).is_seat seat.old }
-    requires number { (M.seats work.now.farm.now).number seat.old ≡ (F.rules work.now.front.now work.now.farm.now).number + 1 }
-    requires ready { MayLeave (F.rules work.now.front.now work.now.farm.now) F.knows (M.seats work.now.farm.now) (at (P.state ports.old) seat.old table.old) }
+    requires number { (M.seats work.now.farm.now).number seat.old
+        ≡ (rules_in F.rules M.map_at work.now).number + 1 }
+    requires ready { MayLeave (rules_in F.rules M.map_at work.now) F.knows
+        (M.seats work.now.farm.now) (at (P.state ports.old) seat.old table.old) }
     ensures seat { SameSeat (M.seats work.now.farm.now) seat.old seat.new }
     ensures worn { OnErr result ((M.seats work.now.farm.now).worn seat.new ≡ true) }
     ensures count { (P.state ports.new).faults ≡ (P.state ports.old).faults }
-    ensures goes { LeavesAll (F.rules work.now.front.now work.now.farm.now) F.knows (M.seats work.now.farm.now) (at (P.state ports.old) seat.old table.old) (at (P.state ports.new) seat.new table.new) result }
+    ensures goes { LeavesAll (rules_in F.rules M.map_at work.now) F.knows
+        (M.seats work.now.farm.now) (at (P.state ports.old) seat.old table.old)
+        (at (P.state ports.new) seat.new table.new) result }
 {
     while let Some((place, conn, why)) = leaving(table.sessions.as_slice()) {
         let Ok(()) = close_one(work, seat, table, ports, (place, conn, why)) else {

@@ -2,6 +2,7 @@
 ghost use Rattle.std.specs.Prelude.{◌≡◌, ◌+◌, true, OnErr};
 ghost use Rattle.farm_base.specs.Outside.{Outside};
 ghost use Rattle.front_loop.specs.Calls.{SameSeat};
+ghost use Rattle.front_loop.specs.Front.{rules_in};
 ghost use Rattle.front_loop.specs.inner.Sessions.{worse};
 ghost use Rattle.front_loop.specs.inner.Moments.{at, MayCollect, Collects, CollectsAll, RepliesOn};
 ghost use Rattle.port_events.specs.Boxes.{HasRest};
@@ -14,6 +15,7 @@ use crate::front::Front;
 use crate::hearing::{is_kept, owes_after, settle, wake_all};
 use crate::sessions::{Answers, Session, SessionTable, place_of};
 use farm_base::Worn;
+use farm_events::Collect;
 use farm_history::{Collected, Outcome, Reply};
 use std::sync::Wait;
 
@@ -26,7 +28,7 @@ fn worse_of(old: Disposition, new: Disposition) -> Disposition
     }
 }
 
-fn reply_one<R: Wait, M: Farm, F: Front<M>>(
+fn reply_one<R: Wait, M: Farm, F: Front>(
     work: &Context<'_, R, M, F>,
     seat: &mut M::Seat,
     session: &mut Session<F::ConnState>,
@@ -34,11 +36,14 @@ fn reply_one<R: Wait, M: Farm, F: Front<M>>(
     reply: Reply,
 ) -> Result<(), Worn>
     requires seat { (M.seats work.now.farm.now).is_seat seat.old }
-    requires number { (M.seats work.now.farm.now).number seat.old ≡ (F.rules work.now.front.now work.now.farm.now).number + 1 }
+    requires number { (M.seats work.now.farm.now).number seat.old
+        ≡ (rules_in F.rules M.map_at work.now).number + 1 }
     requires rest { HasRest answers.old.outbox session.old.conn }
     ensures seat { SameSeat (M.seats work.now.farm.now) seat.old seat.new }
     ensures worn { OnErr result ((M.seats work.now.farm.now).worn seat.new ≡ true) }
-    ensures replied { RepliesOn (F.rules work.now.front.now work.now.farm.now) F.knows (M.seats work.now.farm.now) reply seat.old seat.new session.old session.new answers.old.outbox answers.new.outbox result }
+    ensures replied { RepliesOn (rules_in F.rules M.map_at work.now) F.knows
+        (M.seats work.now.farm.now) reply seat.old seat.new session.old session.new
+        answers.old.outbox answers.new.outbox result }
 {
     if !is_kept(session.disposition) {
         return Ok(());
@@ -58,22 +63,25 @@ fn reply_one<R: Wait, M: Farm, F: Front<M>>(
     Ok(())
 }
 
-fn collect_one<R: Wait, M: Farm, F: Front<M>>(
+fn collect_one<R: Wait, M: Farm, F: Front>(
     work: &Context<'_, R, M, F>,
     seat: &mut M::Seat,
     table: &mut SessionTable<F::ConnState>,
 ) -> Result<Collected, Worn>
     requires seat { (M.seats work.now.farm.now).is_seat seat.old }
-    requires number { (M.seats work.now.farm.now).number seat.old ≡ (F.rules work.now.front.now work.now.farm.now).number + 1 }
-    requires ready { (o : Outside PortsTold) × MayCollect (F.rules work.now.front.now work.now.farm.now) F.knows (M.seats work.now.farm.now) (at o seat.old table.old) }
+    requires number { (M.seats work.now.farm.now).number seat.old
+        ≡ (rules_in F.rules M.map_at work.now).number + 1 }
+    requires ready { (o : Outside PortsTold)
+        × MayCollect (rules_in F.rules M.map_at work.now) F.knows (M.seats work.now.farm.now)
+        (at o seat.old table.old) }
     ensures seat { SameSeat (M.seats work.now.farm.now) seat.old seat.new }
     ensures worn { OnErr result ((M.seats work.now.farm.now).worn seat.new ≡ true) }
-    ensures goes { (o : Outside PortsTold) → Collects (F.rules work.now.front.now work.now.farm.now) F.knows (M.seats work.now.farm.now) (at o seat.old table.old) (at o seat.new table.new) result }
+    ensures goes { (o : Outside PortsTold)
+        → Collects (rules_in F.rules M.map_at work.now) F.knows (M.seats work.now.farm.now)
+        (at o seat.old table.old) (at o seat.new table.new) result }
 {
-    let Ok(collected) = work
-        .farm
-        .collect(work.rt, seat, work.front.number(work.farm))
-    else {
+    let front = work.front.number();
+    let Ok(collected) = work.farm.turn(work.rt, seat, Collect { front }) else {
         return Err(Worn);
     };
     match collected {
@@ -101,17 +109,22 @@ fn collect_one<R: Wait, M: Farm, F: Front<M>>(
 }
 
 /// Collects until no reply comes, and answers whether the farm was stopped.
-pub fn collect_all<R: Wait, M: Farm, F: Front<M>>(
+pub fn collect_all<R: Wait, M: Farm, F: Front>(
     work: &Context<'_, R, M, F>,
     seat: &mut M::Seat,
     table: &mut SessionTable<F::ConnState>,
 ) -> Result<bool, Worn>
     requires seat { (M.seats work.now.farm.now).is_seat seat.old }
-    requires number { (M.seats work.now.farm.now).number seat.old ≡ (F.rules work.now.front.now work.now.farm.now).number + 1 }
-    requires ready { (o : Outside PortsTold) × MayCollect (F.rules work.now.front.now work.now.farm.now) F.knows (M.seats work.now.farm.now) (at o seat.old table.old) }
+    requires number { (M.seats work.now.farm.now).number seat.old
+        ≡ (rules_in F.rules M.map_at work.now).number + 1 }
+    requires ready { (o : Outside PortsTold)
+        × MayCollect (rules_in F.rules M.map_at work.now) F.knows (M.seats work.now.farm.now)
+        (at o seat.old table.old) }
     ensures seat { SameSeat (M.seats work.now.farm.now) seat.old seat.new }
     ensures worn { OnErr result ((M.seats work.now.farm.now).worn seat.new ≡ true) }
-    ensures goes { (o : Outside PortsTold) → CollectsAll (F.rules work.now.front.now work.now.farm.now) F.knows (M.seats work.now.farm.now) (at o seat.old table.old) (at o seat.new table.new) result }
+    ensures goes { (o : Outside PortsTold)
+        → CollectsAll (rules_in F.rules M.map_at work.now) F.knows (M.seats work.now.farm.now)
+        (at o seat.old table.old) (at o seat.new table.new) result }
 {
     for _ in work.rt.forever() {
         let Ok(collected) = collect_one(work, seat, table) else {

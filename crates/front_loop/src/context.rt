@@ -10,3 +10,10 @@ pub struct Context<'a, R, M, F> {
     pub front: &'a F,
     pub farm: &'a M,
 }
+
+/// A piece of the bytes of a connection.
+#[derive(Clone, Copy)]
+pub struct Piece<'a> {
+    pub conn: u32,
+    pub bytes: &'a [u8],
+}

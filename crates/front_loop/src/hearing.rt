@@ -3,7 +3,7 @@ ghost use Rattle.std.specs.Prelude.{◌≡◌, ◌≢◌, ◌+◌, ◌-◌, ◌^
 ghost use Rattle.farm_base.specs.Limits.{most_sessions};
 ghost use Rattle.farm_base.specs.Outside.{Outside};
 ghost use Rattle.front_loop.specs.Calls.{SameSeat};
-ghost use Rattle.front_loop.specs.Front.{keeps};
+ghost use Rattle.front_loop.specs.Front.{keeps, rules_in};
 ghost use Rattle.front_loop.specs.inner.Sessions.{owing, woken, keys, conns, newcomer};
 ghost use Rattle.front_loop.specs.inner.Stages.{Settles, Admits, Opens, MarksAt, marked};
 ghost use Rattle.front_loop.specs.inner.Moments.{at, MayStart, Starts, MayHear, HearsPiece, HearsOn};
@@ -11,7 +11,7 @@ ghost use Rattle.port_events.specs.Boxes.{HasRest, rest_at};
 ghost use Rattle.port_events.specs.Told.{PortsTold, IsOpen, after_close};
 ghost use Rattle.port_events.specs.declared.events.PortEvent.TheVariants as event;
 
-use crate::context::Context;
+use crate::context::{Context, Piece};
 use crate::dispositions::{Disposition, Reason};
 use crate::farm::Farm;
 use crate::front::Front;
@@ -65,30 +65,30 @@ pub fn settle(
     }
 }
 
-fn hear_one<R: Wait, M: Farm, F: Front<M>>(
+fn hear_one<R: Wait, M: Farm, F: Front>(
     work: &Context<'_, R, M, F>,
     seat: &mut M::Seat,
     session: &mut Session<F::ConnState>,
     answers: &mut Answers,
-    piece: &[u8],
+    bytes: &[u8],
 ) -> Result<(), Worn>
     requires seat { (M.seats work.now.farm.now).is_seat seat.old }
-    requires number { (M.seats work.now.farm.now).number seat.old ≡ (F.rules work.now.front.now work.now.farm.now).number + 1 }
+    requires number { (M.seats work.now.farm.now).number seat.old
+        ≡ (rules_in F.rules M.map_at work.now).number + 1 }
     requires rest { HasRest answers.old.outbox session.old.conn }
     ensures seat { SameSeat (M.seats work.now.farm.now) seat.old seat.new }
     ensures worn { OnErr result ((M.seats work.now.farm.now).worn seat.new ≡ true) }
-    ensures heard { HearsOn (F.rules work.now.front.now work.now.farm.now) F.knows (M.seats work.now.farm.now) piece.now seat.old seat.new session.old session.new answers.old.outbox answers.new.outbox result }
+    ensures heard { HearsOn (rules_in F.rules M.map_at work.now) F.knows (M.seats work.now.farm.now)
+        bytes.now seat.old seat.new session.old session.new answers.old.outbox answers.new.outbox
+        result }
 {
     let response = &mut answers.response;
     response.clear();
-    let Ok(disposition) = F::hear(
-        work,
-        seat,
-        session.conn,
-        &mut session.conn_state,
-        piece,
-        response,
-    ) else {
+    let piece = Piece {
+        conn: session.conn,
+        bytes,
+    };
+    let Ok(disposition) = F::hear(work, seat, &mut session.conn_state, &piece, response) else {
         return Err(Worn);
     };
     session.owes = owes_after(session.owes, response.as_slice(), disposition);
@@ -96,7 +96,7 @@ fn hear_one<R: Wait, M: Farm, F: Front<M>>(
     Ok(())
 }
 
-fn hear<R: Wait, M: Farm, F: Front<M>>(
+fn hear<R: Wait, M: Farm, F: Front>(
     work: &Context<'_, R, M, F>,
     seat: &mut M::Seat,
     table: &mut SessionTable<F::ConnState>,
@@ -104,11 +104,16 @@ fn hear<R: Wait, M: Farm, F: Front<M>>(
     piece: &[u8],
 ) -> Result<(), Worn>
     requires seat { (M.seats work.now.farm.now).is_seat seat.old }
-    requires number { (M.seats work.now.farm.now).number seat.old ≡ (F.rules work.now.front.now work.now.farm.now).number + 1 }
-    requires ready { (o : Outside PortsTold) × MayHear (F.rules work.now.front.now work.now.farm.now) F.knows (M.seats work.now.farm.now) conn piece.now (at o seat.old table.old) }
+    requires number { (M.seats work.now.farm.now).number seat.old
+        ≡ (rules_in F.rules M.map_at work.now).number + 1 }
+    requires ready { (o : Outside PortsTold)
+        × MayHear (rules_in F.rules M.map_at work.now) F.knows (M.seats work.now.farm.now) conn
+        piece.now (at o seat.old table.old) }
     ensures seat { SameSeat (M.seats work.now.farm.now) seat.old seat.new }
     ensures worn { OnErr result ((M.seats work.now.farm.now).worn seat.new ≡ true) }
-    ensures goes { (o : Outside PortsTold) → HearsPiece (F.rules work.now.front.now work.now.farm.now) F.knows (M.seats work.now.farm.now) conn piece.now (at o seat.old table.old) (at o seat.new table.new) result }
+    ensures goes { (o : Outside PortsTold)
+        → HearsPiece (rules_in F.rules M.map_at work.now) F.knows (M.seats work.now.farm.now) conn
+        piece.now (at o seat.old table.old) (at o seat.new table.new) result }
 {
     let Some(place) = place_of(table.sessions.as_slice(), conn) else {
         return Ok(());
@@ -129,9 +134,13 @@ fn add<T: Drop>(
     conn_state: T,
 ) -> Result<(), NoMemory>
     requires { rest_at table.old.answers.outbox conn ≡ None }
-    ensures sessions { OnOk result (table.new.sessions.items ≡ table.old.sessions.items ++ newcomer conn conn_state ∷ []) }
-    ensures outbox { OnOk result (table.new.answers.outbox ≡ table.old.answers.outbox ++ (conn, []) ∷ []) }
-    ensures refused { OnErr result ((table.new.sessions.items ≡ table.old.sessions.items) × (table.new.answers.outbox ≡ table.old.answers.outbox)) }
+    ensures sessions { OnOk result
+        (table.new.sessions.items ≡ table.old.sessions.items ++ newcomer conn conn_state ∷ []) }
+    ensures outbox { OnOk result
+        (table.new.answers.outbox ≡ table.old.answers.outbox ++ (conn, []) ∷ []) }
+    ensures refused { OnErr result
+        ((table.new.sessions.items ≡ table.old.sessions.items)
+        × (table.new.answers.outbox ≡ table.old.answers.outbox)) }
     ensures starved { table.new.starved ≡ table.old.starved }
 {
     table.sessions.reserve(1)?;
@@ -150,25 +159,20 @@ fn add<T: Drop>(
 
 // Makes a session of a connection, unless it is there, or 1,024 are, or memory is wanting; answers
 // whether it did.
-fn admit<R, M: Farm, F: Front<M>>(
+fn admit<R, M: Farm, F: Front>(
     work: &Context<'_, R, M, F>,
     table: &mut SessionTable<F::ConnState>,
     conn: u32,
 ) -> bool
     requires { keys table.old.answers.outbox ≡ conns table.old.sessions.items }
-    ensures { Admits (F.rules work.now.front.now work.now.farm.now) F.knows conn table.old table.new result }
+    ensures { Admits (rules_in F.rules M.map_at work.now) F.knows conn table.old table.new result }
 {
     if table.sessions.len() >= MOST_SESSIONS {
         return false;
     }
     match place_of(table.sessions.as_slice(), conn) {
         Some(_) => false,
-        None => match add(
-            work.alloc,
-            table,
-            conn,
-            work.front.begin(work.alloc, work.farm),
-        ) {
+        None => match add(work.alloc, table, conn, work.front.begin(work.alloc)) {
             Ok(()) => true,
             Err(NoMemory) => false,
         },
@@ -187,17 +191,20 @@ fn refused_after(starved: u64, there: usize) -> u64
 
 fn refuse<T, P: Ports>(table: &mut SessionTable<T>, ports: &mut P, conn: u32)
     requires { IsOpen conn (P.state ports.old).told }
-    ensures told { (P.state ports.new).told ≡ option_map (after_close conn) (P.state ports.old).told }
+    ensures told { (P.state ports.new).told
+        ≡ option_map (after_close conn) (P.state ports.old).told }
     ensures count { (P.state ports.new).faults ≡ (P.state ports.old).faults }
     ensures sessions { table.new.sessions.items ≡ table.old.sessions.items }
     ensures outbox { table.new.answers.outbox ≡ table.old.answers.outbox }
-    ensures starved { table.new.starved ≡ cond (nat_lt (length table.old.sessions.items) most_sessions) (min (table.old.starved + 1) (2 ^ 64 - 1)) table.old.starved }
+    ensures starved { table.new.starved
+        ≡ cond (nat_lt (length table.old.sessions.items) most_sessions)
+        (min (table.old.starved + 1) (2 ^ 64 - 1)) table.old.starved }
 {
     ports.close(conn);
     table.starved = refused_after(table.starved, table.sessions.len());
 }
 
-fn open<R, M: Farm, F: Front<M>, P: Ports>(
+fn open<R, M: Farm, F: Front, P: Ports>(
     work: &Context<'_, R, M, F>,
     table: &mut SessionTable<F::ConnState>,
     ports: &mut P,
@@ -205,7 +212,8 @@ fn open<R, M: Farm, F: Front<M>, P: Ports>(
 )
     requires keys { keys table.old.answers.outbox ≡ conns table.old.sessions.items }
     requires open { IsOpen conn (P.state ports.old).told }
-    ensures opens { Opens (F.rules work.now.front.now work.now.farm.now) F.knows conn (P.state ports.old).told (P.state ports.new).told table.old table.new }
+    ensures opens { Opens (rules_in F.rules M.map_at work.now) F.knows conn (P.state ports.old).told
+        (P.state ports.new).told table.old table.new }
     ensures count { (P.state ports.new).faults ≡ (P.state ports.old).faults }
 {
     match admit(work, table, conn) {
@@ -235,7 +243,7 @@ fn mark_at<T>(table: &mut SessionTable<T>, event: PortEvent, conn: u32)
 }
 
 /// An event came that begins a round.
-pub fn take_event<R: Wait, M: Farm, F: Front<M>, P: Ports>(
+pub fn take_event<R: Wait, M: Farm, F: Front, P: Ports>(
     work: &Context<'_, R, M, F>,
     seat: &mut M::Seat,
     table: &mut SessionTable<F::ConnState>,
@@ -243,14 +251,18 @@ pub fn take_event<R: Wait, M: Farm, F: Front<M>, P: Ports>(
     came: &Came<'_>,
 ) -> Result<(), Worn>
     requires seat { (M.seats work.now.farm.now).is_seat seat.old }
-    requires number { (M.seats work.now.farm.now).number seat.old ≡ (F.rules work.now.front.now work.now.farm.now).number + 1 }
+    requires number { (M.seats work.now.farm.now).number seat.old
+        ≡ (rules_in F.rules M.map_at work.now).number + 1 }
     requires begins { came.now.event ≢ event.Broken }
     requires memory { came.now.event ≢ event.NoMemory }
-    requires ready { MayStart (F.rules work.now.front.now work.now.farm.now) F.knows (M.seats work.now.farm.now) came.now (at (P.state ports.old) seat.old table.old) }
+    requires ready { MayStart (rules_in F.rules M.map_at work.now) F.knows
+        (M.seats work.now.farm.now) came.now (at (P.state ports.old) seat.old table.old) }
     ensures seat { SameSeat (M.seats work.now.farm.now) seat.old seat.new }
     ensures worn { OnErr result ((M.seats work.now.farm.now).worn seat.new ≡ true) }
     ensures count { (P.state ports.new).faults ≡ (P.state ports.old).faults }
-    ensures goes { Starts (F.rules work.now.front.now work.now.farm.now) F.knows (M.seats work.now.farm.now) came.now (at (P.state ports.old) seat.old table.old) (at (P.state ports.new) seat.new table.new) result }
+    ensures goes { Starts (rules_in F.rules M.map_at work.now) F.knows (M.seats work.now.farm.now)
+        came.now (at (P.state ports.old) seat.old table.old)
+        (at (P.state ports.new) seat.new table.new) result }
 {
     match came.event {
         PortEvent::Opened(conn) => {

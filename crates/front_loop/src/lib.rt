@@ -27,7 +27,7 @@ mod offering;
 mod rounds;
 mod sessions;
 
-pub use context::Context;
+pub use context::{Context, Piece};
 pub use dispositions::{Disposition, Reason};
 pub use farm::Farm;
 pub use front::Front;

@@ -1,5 +1,6 @@
 //! Bytes are offered to the connections that have a reason to get them.
 ghost use Rattle.std.specs.Prelude.{◌≡◌, ◌≤◌, true};
+ghost use Rattle.front_loop.specs.Front.{rules_in};
 ghost use Rattle.front_loop.specs.inner.Sessions.{is_up};
 ghost use Rattle.front_loop.specs.inner.Stages.{Gives, OffersOne, disposition_after, part_or_all};
 ghost use Rattle.front_loop.specs.inner.Moments.{at, MayOffer, OffersAll};
@@ -32,7 +33,8 @@ pub enum Gave {
 fn give<P: Ports>(outbox: &mut Outbox, conn: u32, ports: &mut P) -> Gave
     requires rest { HasRest outbox.old conn }
     requires open { IsOpen conn (P.state ports.old).told }
-    ensures gives { Gives conn (rest_in outbox.old conn) outbox.old outbox.new (P.state ports.old).told (P.state ports.new).told result }
+    ensures gives { Gives conn (rest_in outbox.old conn) outbox.old outbox.new
+        (P.state ports.old).told (P.state ports.new).told result }
     ensures count { (P.state ports.old).faults ≤ (P.state ports.new).faults }
 {
     if outbox.rest(conn).is_empty() {
@@ -73,15 +75,17 @@ fn disposition_of_offer(gave: Gave, done: bool, disposition: Disposition) -> Dis
     }
 }
 
-fn offer_one<R, M: Farm, F: Front<M>, P: Ports>(
+fn offer_one<R, M: Farm, F: Front, P: Ports>(
     work: &Context<'_, R, M, F>,
     session: &mut Session<F::ConnState>,
     outbox: &mut Outbox,
     ports: &mut P,
 )
     requires rest { HasRest outbox.old session.old.conn }
-    requires open { is_up session.old.disposition ≡ true → IsOpen session.old.conn (P.state ports.old).told }
-    ensures offers { OffersOne (F.rules work.now.front.now work.now.farm.now) F.knows session.old session.new outbox.old outbox.new (P.state ports.old).told (P.state ports.new).told }
+    requires open { is_up session.old.disposition ≡ true
+        → IsOpen session.old.conn (P.state ports.old).told }
+    ensures offers { OffersOne (rules_in F.rules M.map_at work.now) F.knows session.old session.new
+        outbox.old outbox.new (P.state ports.old).told (P.state ports.new).told }
     ensures count { (P.state ports.old).faults ≤ (P.state ports.new).faults }
 {
     if !session.owes || !is_kept(session.disposition) {
@@ -89,18 +93,22 @@ fn offer_one<R, M: Farm, F: Front<M>, P: Ports>(
     }
     session.owes = false;
     let gave = give(outbox, session.conn, ports);
-    let done = work.front.is_done(work.farm, &session.conn_state);
+    let done = work.front.is_done(&session.conn_state);
     session.disposition = disposition_of_offer(gave, done, session.disposition);
 }
 
 /// Offers every session its bytes that owes that.
-pub fn offer_all<R, M: Farm, F: Front<M>, P: Ports>(
+pub fn offer_all<R, M: Farm, F: Front, P: Ports>(
     work: &Context<'_, R, M, F>,
     table: &mut SessionTable<F::ConnState>,
     ports: &mut P,
 )
-    requires ready { (seat : M.Seat) × MayOffer (F.rules work.now.front.now work.now.farm.now) F.knows (M.seats work.now.farm.now) (at (P.state ports.old) seat table.old) }
-    ensures goes { (seat : M.Seat) → OffersAll (F.rules work.now.front.now work.now.farm.now) F.knows (M.seats work.now.farm.now) (at (P.state ports.old) seat table.old) (at (P.state ports.new) seat table.new) }
+    requires ready { (seat : M.Seat)
+        × MayOffer (rules_in F.rules M.map_at work.now) F.knows (M.seats work.now.farm.now)
+        (at (P.state ports.old) seat table.old) }
+    ensures goes { (seat : M.Seat)
+        → OffersAll (rules_in F.rules M.map_at work.now) F.knows (M.seats work.now.farm.now)
+        (at (P.state ports.old) seat table.old) (at (P.state ports.new) seat table.new) }
     ensures count { (P.state ports.old).faults ≤ (P.state ports.new).faults }
 {
     for place in 0..table.sessions.len() {

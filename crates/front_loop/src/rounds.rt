@@ -1,12 +1,13 @@
 //! Rounds, one after another, until the front ends.
-ghost use Rattle.std.specs.Prelude.{◌≡◌, ◌≢◌, ◌≤◌, ◌+◌, [], true, Some, OnErr, IfOk};
+ghost use Rattle.std.specs.Prelude.{◌≡◌, ◌≢◌, ◌≤◌, ◌+◌, [], true, Some, OnErr, IfOk, map};
 ghost use Rattle.front_loop.specs.Calls.{SameSeat};
-ghost use Rattle.front_loop.specs.Serving.{FrontRun};
+ghost use Rattle.front_loop.specs.Front.{IsServed, rules_in};
 ghost use Rattle.farm_base.specs.Outside.{Counted};
+ghost use Rattle.port_events.specs.Boxes.{as_rest};
 ghost use Rattle.port_events.specs.declared.events.PortEvent.TheVariants as event;
 ghost use Rattle.port_events.specs.declared.ends.FrontEnd.TheVariants as ended;
 ghost use Rattle.front_loop.specs.inner.Stages.{EndsEarly, StopsAfter, end_of};
-ghost use Rattle.front_loop.specs.inner.Moments.{at, MayStart, Plays, MayGo, GoesOnce, GoesOn, MayServe, RunsTo};
+ghost use Rattle.front_loop.specs.inner.Moments.{at, MayStart, Plays, MayGo, GoesOnce, GoesOn};
 
 use crate::closing::close_all;
 use crate::collecting::collect_all;
@@ -17,8 +18,8 @@ use crate::hearing::{Came, take_event};
 use crate::offering::offer_all;
 use crate::sessions::SessionTable;
 use farm_base::Worn;
+use farm_events::Stop;
 use port_events::{FrontDone, FrontEnd, PortEvent, Ports};
-use std::alloc::Global;
 use std::sync::Wait;
 
 fn end_after(event: PortEvent, stopped: bool) -> Option<FrontEnd>
@@ -44,7 +45,7 @@ fn early_end(event: PortEvent) -> Option<FrontEnd>
     }
 }
 
-fn play<R: Wait, M: Farm, F: Front<M>, P: Ports>(
+fn play<R: Wait, M: Farm, F: Front, P: Ports>(
     work: &Context<'_, R, M, F>,
     seat: &mut M::Seat,
     table: &mut SessionTable<F::ConnState>,
@@ -52,15 +53,19 @@ fn play<R: Wait, M: Farm, F: Front<M>, P: Ports>(
     came: &Came<'_>,
 ) -> Result<Option<FrontEnd>, Worn>
     requires seat { (M.seats work.now.farm.now).is_seat seat.old }
-    requires number { (M.seats work.now.farm.now).number seat.old ≡ (F.rules work.now.front.now work.now.farm.now).number + 1 }
+    requires number { (M.seats work.now.farm.now).number seat.old
+        ≡ (rules_in F.rules M.map_at work.now).number + 1 }
     requires begins { came.now.event ≢ event.Broken }
     requires memory { came.now.event ≢ event.NoMemory }
-    requires ready { MayStart (F.rules work.now.front.now work.now.farm.now) F.knows (M.seats work.now.farm.now) came.now (at (P.state ports.old) seat.old table.old) }
+    requires ready { MayStart (rules_in F.rules M.map_at work.now) F.knows
+        (M.seats work.now.farm.now) came.now (at (P.state ports.old) seat.old table.old) }
     ensures seat { SameSeat (M.seats work.now.farm.now) seat.old seat.new }
     ensures worn { OnErr result ((M.seats work.now.farm.now).worn seat.new ≡ true) }
     ensures count { (P.state ports.old).faults ≤ (P.state ports.new).faults }
     ensures unbroken { IfOk result (λ end. end ≢ Some ended.Broken) }
-    ensures goes { Plays (F.rules work.now.front.now work.now.farm.now) F.knows (M.seats work.now.farm.now) came.now (at (P.state ports.old) seat.old table.old) (at (P.state ports.new) seat.new table.new) result }
+    ensures goes { Plays (rules_in F.rules M.map_at work.now) F.knows (M.seats work.now.farm.now)
+        came.now (at (P.state ports.old) seat.old table.old)
+        (at (P.state ports.new) seat.new table.new) result }
 {
     let Ok(()) = take_event(work, seat, table, ports, came) else {
         return Err(Worn);
@@ -75,7 +80,7 @@ fn play<R: Wait, M: Farm, F: Front<M>, P: Ports>(
     Ok(end_after(came.event, stopped))
 }
 
-fn round<R: Wait, M: Farm, F: Front<M>, P: Ports>(
+fn round<R: Wait, M: Farm, F: Front, P: Ports>(
     work: &Context<'_, R, M, F>,
     seat: &mut M::Seat,
     table: &mut SessionTable<F::ConnState>,
@@ -83,13 +88,19 @@ fn round<R: Wait, M: Farm, F: Front<M>, P: Ports>(
     room: &mut Vec<u8>,
 ) -> Result<Option<FrontEnd>, Worn>
     requires seat { (M.seats work.now.farm.now).is_seat seat.old }
-    requires number { (M.seats work.now.farm.now).number seat.old ≡ (F.rules work.now.front.now work.now.farm.now).number + 1 }
-    requires ready { MayGo (F.rules work.now.front.now work.now.farm.now) F.knows (M.seats work.now.farm.now) (at (P.state ports.old) seat.old table.old) }
+    requires number { (M.seats work.now.farm.now).number seat.old
+        ≡ (rules_in F.rules M.map_at work.now).number + 1 }
+    requires ready { MayGo (rules_in F.rules M.map_at work.now) F.knows (M.seats work.now.farm.now)
+        (at (P.state ports.old) seat.old table.old) }
     ensures seat { SameSeat (M.seats work.now.farm.now) seat.old seat.new }
     ensures worn { OnErr result ((M.seats work.now.farm.now).worn seat.new ≡ true) }
     ensures count { (P.state ports.old).faults ≤ (P.state ports.new).faults }
-    ensures broken { IfOk result (λ end. end ≡ Some ended.Broken → Counted (P.state ports.old).faults (P.state ports.new).faults) }
-    ensures goes { GoesOnce (F.rules work.now.front.now work.now.farm.now) F.knows (M.seats work.now.farm.now) (at (P.state ports.old) seat.old table.old) (at (P.state ports.new) seat.new table.new) result }
+    ensures broken { IfOk result
+        (λ end.
+        end ≡ Some ended.Broken → Counted (P.state ports.old).faults (P.state ports.new).faults) }
+    ensures goes { GoesOnce (rules_in F.rules M.map_at work.now) F.knows (M.seats work.now.farm.now)
+        (at (P.state ports.old) seat.old table.old) (at (P.state ports.new) seat.new table.new)
+        result }
 {
     let event = ports.next(room);
     match early_end(event) {
@@ -101,19 +112,25 @@ fn round<R: Wait, M: Farm, F: Front<M>, P: Ports>(
     }
 }
 
-fn run<R: Wait, M: Farm, F: Front<M>, P: Ports>(
+fn run<R: Wait, M: Farm, F: Front, P: Ports>(
     work: &Context<'_, R, M, F>,
     seat: &mut M::Seat,
     table: &mut SessionTable<F::ConnState>,
     ports: &mut P,
 ) -> Result<FrontEnd, Worn>
     requires seat { (M.seats work.now.farm.now).is_seat seat.old }
-    requires number { (M.seats work.now.farm.now).number seat.old ≡ (F.rules work.now.front.now work.now.farm.now).number + 1 }
-    requires ready { MayGo (F.rules work.now.front.now work.now.farm.now) F.knows (M.seats work.now.farm.now) (at (P.state ports.old) seat.old table.old) }
+    requires number { (M.seats work.now.farm.now).number seat.old
+        ≡ (rules_in F.rules M.map_at work.now).number + 1 }
+    requires ready { MayGo (rules_in F.rules M.map_at work.now) F.knows (M.seats work.now.farm.now)
+        (at (P.state ports.old) seat.old table.old) }
     ensures seat { SameSeat (M.seats work.now.farm.now) seat.old seat.new }
     ensures worn { OnErr result ((M.seats work.now.farm.now).worn seat.new ≡ true) }
-    ensures broken { IfOk result (λ end. end ≡ ended.Broken → Counted (P.state ports.old).faults (P.state ports.new).faults) }
-    ensures goes { GoesOn (F.rules work.now.front.now work.now.farm.now) F.knows (M.seats work.now.farm.now) (at (P.state ports.old) seat.old table.old) (at (P.state ports.new) seat.new table.new) result }
+    ensures broken { IfOk result
+        (λ end. end ≡ ended.Broken
+        → Counted (P.state ports.old).faults (P.state ports.new).faults) }
+    ensures goes { GoesOn (rules_in F.rules M.map_at work.now) F.knows (M.seats work.now.farm.now)
+        (at (P.state ports.old) seat.old table.old) (at (P.state ports.new) seat.new table.new)
+        result }
 {
     let mut room = Vec::new(work.alloc);
     for _ in work.rt.forever() {
@@ -131,34 +148,31 @@ fn run<R: Wait, M: Farm, F: Front<M>, P: Ports>(
 fn stop_after<R: Wait, M: Farm>(rt: &R, farm: &M, seat: &mut M::Seat, end: FrontEnd) -> FrontEnd
     requires { (M.seats farm.now).is_seat seat.old }
     ensures seat { SameSeat (M.seats farm.now) seat.old seat.new }
-    ensures stops { StopsAfter end result ((M.seats farm.now).mine seat.old) ((M.seats farm.now).mine seat.new) ((M.seats farm.now).worn seat.new) }
+    ensures stops { StopsAfter end result ((M.seats farm.now).mine seat.old)
+        ((M.seats farm.now).mine seat.new) ((M.seats farm.now).worn seat.new) }
     ensures broken { result ≡ ended.Broken → end ≡ ended.Broken }
 {
     if end == FrontEnd::Finished {
         return FrontEnd::Finished;
     }
-    match farm.stop(rt, seat) {
+    match farm.turn(rt, seat, Stop) {
         Ok(()) => end,
         Err(Worn) => FrontEnd::Worn,
     }
 }
 
-fn serve_at<R: Wait, M: Farm, F: Front<M>, P: Ports>(
-    work: &Context<'_, R, M, F>,
-    seat: &mut M::Seat,
-    table: &mut SessionTable<F::ConnState>,
-    ports: &mut P,
-) -> FrontEnd
-    requires seat { (M.seats work.now.farm.now).is_seat seat.old }
-    requires number { (M.seats work.now.farm.now).number seat.old ≡ (F.rules work.now.front.now work.now.farm.now).number + 1 }
-    requires ready { MayServe (F.rules work.now.front.now work.now.farm.now) F.knows (M.seats work.now.farm.now) (at (P.state ports.old) seat.old table.old) }
-    ensures seat { SameSeat (M.seats work.now.farm.now) seat.old seat.new }
-    ensures served { RunsTo (F.rules work.now.front.now work.now.farm.now) F.knows (M.seats work.now.farm.now) (at (P.state ports.old) seat.old table.old) (at (P.state ports.new) seat.new table.new) result }
-    ensures broken { result ≡ ended.Broken → Counted (P.state ports.old).faults (P.state ports.new).faults }
+// What is handed back of a front that has ended.
+fn done_by<T: Drop>(table: SessionTable<T>, end: FrontEnd, front: u32) -> FrontDone
+    ensures end { result.end ≡ end }
+    ensures rests { result.rests.items ≡ map (as_rest front) table.answers.outbox }
+    ensures starved { result.starved ≡ table.starved }
 {
-    match run(work, seat, table, ports) {
-        Ok(end) => stop_after(work.rt, work.farm, seat, end),
-        Err(Worn) => FrontEnd::Worn,
+    let answers = table.answers;
+    let rests = answers.outbox.into_rests(front);
+    FrontDone {
+        end,
+        rests,
+        starved: table.starved,
     }
 }
 
@@ -166,35 +180,28 @@ fn serve_at<R: Wait, M: Farm, F: Front<M>, P: Ports>(
 /// Stopped where the farm was stopped, Broken where its ports broke, NoMemory where they found no
 /// memory, and Worn where the farm's limit of turns was drawn. Where it ends otherwise than Finished or
 /// Worn it stops the farm. Broken comes only where the ports' count of faults rose in this call.
-pub fn serve<R: Wait, M: Farm, F: Front<M>, P: Ports>(
-    rt: &R,
-    alloc: Global,
-    front: &F,
-    farm: &M,
+pub fn serve<R: Wait, M: Farm, F: Front, P: Ports>(
+    work: &Context<'_, R, M, F>,
     seat: &mut M::Seat,
     ports: &mut P,
 ) -> FrontDone
-    requires seat { (M.seats farm.now).is_seat seat.old }
-    requires number { (M.seats farm.now).number seat.old ≡ (F.rules front.now farm.now).number + 1 }
-    requires fresh { (M.seats farm.now).mine seat.old ≡ [] }
-    ensures seat { SameSeat (M.seats farm.now) seat.old seat.new }
-    ensures served { let S = M.seats farm.now in FrontRun (F.rules front.now farm.now) (P.state ports.old).told (P.state ports.new).told (S.mine seat.new) result.end result.rests.items result.starved (S.worn seat.new) }
-    ensures broken { result.end ≡ ended.Broken → Counted (P.state ports.old).faults (P.state ports.new).faults }
+    requires seat { (M.seats work.now.farm.now).is_seat seat.old }
+    requires number { (M.seats work.now.farm.now).number seat.old
+        ≡ (rules_in F.rules M.map_at work.now).number + 1 }
+    requires fresh { (M.seats work.now.farm.now).mine seat.old ≡ [] }
+    ensures seat { SameSeat (M.seats work.now.farm.now) seat.old seat.new }
+    ensures served { IsServed (rules_in F.rules M.map_at work.now) (M.seats work.now.farm.now)
+        (P.state ports.old).told (P.state ports.new).told seat.new result }
+    ensures broken { result.end ≡ ended.Broken
+        → Counted (P.state ports.old).faults (P.state ports.new).faults }
 {
-    let number = front.number(farm);
-    let mut table = SessionTable::new(alloc);
-    let work = Context {
-        rt,
-        alloc,
-        front,
-        farm,
-    };
-    let end = serve_at(&work, seat, &mut table, ports);
-    let answers = table.answers;
-    let rests = answers.outbox.into_rests(number);
-    FrontDone {
-        end,
-        rests,
-        starved: table.starved,
+    let mut table = SessionTable::new(work.alloc);
+    let front = work.front.number();
+    match run(work, seat, &mut table, ports) {
+        Ok(end) => {
+            let end = stop_after(work.rt, work.farm, seat, end);
+            done_by(table, end, front)
+        }
+        Err(Worn) => done_by(table, FrontEnd::Worn, front),
     }
 }

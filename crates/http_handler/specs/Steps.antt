@@ -8,15 +8,23 @@ use Rattle.farm_history.specs.Entries.{Entry, Fetch}
 use Rattle.front_loop.specs.declared.dispositions.Disposition.{Disposition}
 use Rattle.front_loop.specs.declared.dispositions.Disposition.TheVariants.{Stays, Leaves}
 use Rattle.front_loop.specs.declared.dispositions.Reason.TheVariants as reason
+use Rattle.front_loop.specs.declared.context.Context.{Context}
 use Rattle.front_loop.specs.Front.{keeps}
+use Rattle.front_loop.specs.Rules.{Rules}
 use Rattle.tile_http.specs.Heads.{IsOpen}
 use Rattle.tile_http.specs.Targets.{Place}
 use Rattle.tile_http.specs.Answers.{tile_answer}
 use Rattle.http_handler.specs.declared.acts.HttpAsk.{HttpAsk}
 use Rattle.http_handler.specs.declared.acts.Act.{Act}
 use Rattle.http_handler.specs.declared.conn_states.Stage.{Stage}
+use Rattle.http_handler.specs.declared.fronts.Tiles.{Tiles}
 use Rattle.http_handler.specs.ConnStates.{is_reading, is_answered, waits_in}
-use Rattle.http_handler.specs.Tiles.{BytesAsk, found_no_memory, ask_done}
+use Rattle.http_handler.specs.Tiles.{BytesAsk, found_no_memory, ask_done, tile_rules}
+
+-- the rules of a tile front at a farm, of what a step of it works with
+abbrev pub rules_at : {R M : Type 0} → (M → List ℕ → Option ℕ) → Context R M Tiles
+    → Rules Act HttpAsk
+rules_at map_at work = tile_rules work.front.now.front (map_at work.farm.now)
 
 -- ---- an act, by what is made of it
 
@@ -91,17 +99,20 @@ abbrev pub IsIdle : List Entry → List Entry → Disposition → Type 0
 IsIdle mine mine' disposition = (mine' ≡ mine) × (disposition ≡ Leaves reason.Starved)
 
 -- the tile was fetched, and its answer said
-pub record DidFetch (s : Spot) (mine mine' : List Entry) (response : List ℕ) (disposition : Disposition) (f : Fetched) : Type 0 where
+pub record DidFetch (s : Spot) (mine mine' : List Entry) (response : List ℕ)
+    (disposition : Disposition) (f : Fetched) : Type 0 where
   pub mine_is : mine' ≡ mine ++ Fetch s f ∷ []
   pub why : WhyOf (found_no_memory f) disposition
   pub response_is : keeps disposition ≡ true → response ≡ tile_answer f
 
 -- the tile was fetched, or the turn was worn
 abbrev pub Fetches : Spot → List Entry → List Entry → List ℕ → Disposition → Type 0
-Fetches s mine mine' response disposition = IsIdle mine mine' disposition ⊎ ((f : Fetched) × DidFetch s mine mine' response disposition f)
+Fetches s mine mine' response disposition =
+    IsIdle mine mine' disposition ⊎ ((f : Fetched) × DidFetch s mine mine' response disposition f)
 
 -- the ask was done, as this act
-pub record DidHttpAsk (c : Conn) (w : HttpAsk) (mine mine' : List Entry) (stage : Stage) (response : List ℕ) (disposition : Disposition) (a : Act) : Type 0 where
+pub record DidHttpAsk (c : Conn) (w : HttpAsk) (mine mine' : List Entry) (stage : Stage)
+    (response : List ℕ) (disposition : Disposition) (a : Act) : Type 0 where
   pub want_is : want a ≡ w
   pub mine_is : mine' ≡ mine ++ tile_entries c a
   pub fits : fits_act a ≡ true
@@ -113,5 +124,8 @@ pub record DidHttpAsk (c : Conn) (w : HttpAsk) (mine mine' : List Entry) (stage 
   pub ends : keeps disposition ≡ true → is_answer a ≡ is_answered stage
 
 -- the ask was done, or the turn was worn
-abbrev pub DoesHttpAsk : Conn → HttpAsk → List Entry → List Entry → Stage → List ℕ → Disposition → Type 0
-DoesHttpAsk c w mine mine' stage response disposition = IsIdle mine mine' disposition ⊎ ((a : Act) × DidHttpAsk c w mine mine' stage response disposition a)
+abbrev pub DoesHttpAsk : Conn → HttpAsk → List Entry → List Entry → Stage → List ℕ → Disposition
+    → Type 0
+DoesHttpAsk c w mine mine' stage response disposition =
+    IsIdle mine mine' disposition
+    ⊎ ((a : Act) × DidHttpAsk c w mine mine' stage response disposition a)

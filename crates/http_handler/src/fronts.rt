@@ -7,7 +7,7 @@ use crate::conn_states::{ConnState, Stage, is_answered};
 use crate::hearing::{hear_piece, take_reply};
 use farm_base::Worn;
 use farm_history::Reply;
-use front_loop::{Context, Disposition, Farm, Front};
+use front_loop::{Context, Disposition, Farm, Front, Piece};
 use std::alloc::Global;
 use std::sync::Wait;
 
@@ -17,40 +17,39 @@ pub struct Tiles {
     pub front: u32,
 }
 
-impl<M: Farm> Front<M> for Tiles {
+impl Front for Tiles {
     type ConnState = ConnState;
 
     type Want = HttpAsk;
 
     type Act = Act;
 
-    ghost rules = { λ tiles farm. tile_rules tiles.front (M.map_at farm) };
+    ghost rules = { λ tiles maps. tile_rules tiles.front maps };
 
     ghost knows = { Knows };
 
-    fn number(&self, _farm: &M) -> u32 {
+    fn number(&self) -> u32 {
         self.front
     }
 
-    fn begin(&self, alloc: Global, _farm: &M) -> ConnState {
+    fn begin(&self, alloc: Global) -> ConnState {
         ConnState {
             head: Vec::new(alloc),
             stage: Stage::Reading,
         }
     }
 
-    fn hear<R: Wait>(
+    fn hear<R: Wait, M: Farm>(
         context: &Context<'_, R, M, Tiles>,
         seat: &mut M::Seat,
-        conn: u32,
         conn_state: &mut ConnState,
-        piece: &[u8],
+        piece: &Piece<'_>,
         response: &mut Vec<u8>,
     ) -> Result<Disposition, Worn> {
-        hear_piece(context, seat, conn, conn_state, piece, response)
+        hear_piece(context, seat, conn_state, piece, response)
     }
 
-    fn reply<R: Wait>(
+    fn reply<R: Wait, M: Farm>(
         context: &Context<'_, R, M, Tiles>,
         seat: &mut M::Seat,
         conn_state: &mut ConnState,
@@ -60,9 +59,9 @@ impl<M: Farm> Front<M> for Tiles {
         take_reply(context, seat, conn_state, reply, response)
     }
 
-    fn is_done(&self, _farm: &M, conn_state: &ConnState) -> bool {
+    fn is_done(&self, conn_state: &ConnState) -> bool {
         is_answered(conn_state.stage)
     }
 
-    ghost alone = { λ tiles farm reply ms. (refl, refl) };
+    ghost alone = { λ tiles maps reply ms. (refl, refl) };
 }

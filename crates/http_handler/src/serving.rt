@@ -13,6 +13,7 @@ use crate::acts::HttpAsk;
 use crate::conn_states::Stage;
 use crate::fronts::Tiles;
 use farm_base::{NoMemory, Worn};
+use farm_events::{Ask, Fetch, Look};
 use farm_history::{AskAnswer, Cmd, Conn, Fetched, Spot};
 use front_loop::{Context, Disposition, Farm, Reason};
 use std::alloc::Global;
@@ -54,7 +55,7 @@ fn spot_of<M: Farm>(farm: &M, name: &str, z: u32, x: u32, y: u32) -> Spot
     Spot { map, z, x, y }
 }
 
-/// Does a ask, and puts the bytes that are answered to it into `response`.
+/// Does an ask, and puts the bytes that are answered to it into `response`.
 pub(crate) fn serve_http_ask<R: Wait, M: Farm>(
     context: &Context<'_, R, M, Tiles>,
     seat: &mut M::Seat,
@@ -69,7 +70,8 @@ pub(crate) fn serve_http_ask<R: Wait, M: Farm>(
     ensures seat { SameSeat (M.seats context.now.farm.now) seat.old seat.new }
     ensures worn { OnErr result ((M.seats context.now.farm.now).worn seat.new ≡ true) }
     ensures does { DoesHttpAsk conn http_ask ((M.seats context.now.farm.now).mine seat.old)
-        ((M.seats context.now.farm.now).mine seat.new) stage.new response.new.items (disposition_of result) }
+        ((M.seats context.now.farm.now).mine seat.new) stage.new response.new.items
+        (disposition_of result) }
 {
     match http_ask {
         HttpAsk::Bad => Ok(refuse(context.alloc, Fault::BadRequest, stage, response)),
@@ -77,14 +79,15 @@ pub(crate) fn serve_http_ask<R: Wait, M: Farm>(
         HttpAsk::NoTarget => Ok(refuse(context.alloc, Fault::NotFound, stage, response)),
         HttpAsk::Tile(spot) => serve_tile(context, seat, conn, spot, stage, response),
         HttpAsk::Status(spot) => {
-            let Ok(looked) = context.farm.look(context.rt, seat, spot) else {
+            let Ok(looked) = context.farm.turn(context.rt, seat, Look { spot }) else {
                 return Err(Worn);
             };
             *stage = Stage::Answered;
             Ok(disposition_of_put(put_status(context.alloc, looked, response)))
         }
         HttpAsk::Dirty(spot) => {
-            let Ok(_) = context.farm.ask(context.rt, seat, conn, Cmd::Dirty, spot) else {
+            let cmd = Cmd::Dirty;
+            let Ok(_) = context.farm.turn(context.rt, seat, Ask { conn, cmd, spot }) else {
                 return Err(Worn);
             };
             *stage = Stage::Answered;
@@ -115,10 +118,13 @@ fn serve_tile<R: Wait, M: Farm>(
     requires empty { response.old.items ≡ [] }
     ensures seat { SameSeat (M.seats context.now.farm.now) seat.old seat.new }
     ensures worn { OnErr result ((M.seats context.now.farm.now).worn seat.new ≡ true) }
-    ensures does { DoesHttpAsk conn (http_ask.Tile spot) ((M.seats context.now.farm.now).mine seat.old)
-        ((M.seats context.now.farm.now).mine seat.new) stage.new response.new.items (disposition_of result) }
+    ensures does { DoesHttpAsk conn (http_ask.Tile spot)
+        ((M.seats context.now.farm.now).mine seat.old)
+        ((M.seats context.now.farm.now).mine seat.new) stage.new response.new.items
+        (disposition_of result) }
 {
-    let Ok(answer) = context.farm.ask(context.rt, seat, conn, Cmd::Render, spot) else {
+    let cmd = Cmd::Render;
+    let Ok(answer) = context.farm.turn(context.rt, seat, Ask { conn, cmd, spot }) else {
         return Err(Worn);
     };
     match number_in(answer) {
@@ -160,10 +166,11 @@ pub(crate) fn fetch_and_say<R: Wait, M: Farm>(
     ensures fetches { Fetches spot ((M.seats context.now.farm.now).mine seat.old)
         ((M.seats context.now.farm.now).mine seat.new) response.new.items (disposition_of result) }
 {
-    let Ok(fetched) = context.farm.fetch(context.rt, context.alloc, seat, spot) else {
+    let alloc = context.alloc;
+    let Ok(fetched) = context.farm.turn(context.rt, seat, Fetch { alloc, spot }) else {
         return Err(Worn);
     };
-    Ok(say_tile(context.alloc, &fetched, response))
+    Ok(say_tile(alloc, &fetched, response))
 }
 
 fn say_tile(alloc: Global, fetched: &Fetched, response: &mut Vec<u8>) -> Disposition

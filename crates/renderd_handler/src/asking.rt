@@ -5,12 +5,13 @@ ghost use Rattle.renderd_protocol.specs.Messages.{is_version, wire_of};
 ghost use Rattle.renderd_handler.specs.declared.asking.Halt.{Halt};
 ghost use Rattle.renderd_handler.specs.Renderd.{answer_command, command_of, response_to, with_wait};
 ghost use Rattle.farm_history.specs.Past.{number_in};
-ghost use Rattle.renderd_handler.specs.inner.Reads.{asks_in, Halts, Made, pairs};
+ghost use Rattle.renderd_handler.specs.inner.Reads.{AsksOne, pairs};
 
 use crate::renderd::Renderd;
 use crate::waits::Waiting;
 use crate::words::{DONE, NOT_DONE, command_of, spot_of};
 use farm_base::NoMemory;
+use farm_events::Ask;
 use farm_history::{AskAnswer, Conn};
 use front_loop::{Context, Farm};
 use renderd_protocol::{Request, write};
@@ -38,7 +39,8 @@ pub fn say(response: &mut Vec<u8>, request: &Request, command: u32) -> Result<()
 // Keeps a request that waits, with the number of its ask.
 fn keep(waits: &mut Vec<Waiting>, number: u64, request: Request) -> Result<(), NoMemory>
     requires { IsTrue (is_version request.ver) }
-    ensures { OnOk result (pairs waits.new.items ≡ pairs waits.old.items ++ (number, request) ∷ []) }
+    ensures { OnOk result
+        (pairs waits.new.items ≡ pairs waits.old.items ++ (number, request) ∷ []) }
 {
     waits.push(Waiting { number, request })?;
     Ok(())
@@ -77,16 +79,13 @@ pub fn ask<R: Wait, M: Farm>(
     response: &mut Vec<u8>,
 ) -> Result<(), Halt>
     requires seat { (M.seats context.now.farm.now).is_seat seat.old }
-    requires number { (M.seats context.now.farm.now).number seat.old ≡ context.now.front.now.front + 1 }
+    requires number { (M.seats context.now.farm.now).number seat.old
+        ≡ context.now.front.now.front + 1 }
     requires version { IsTrue (is_version request.ver) }
     ensures seat { SameSeat (M.seats context.now.farm.now) seat.old seat.new }
     ensures worn { result ≡ Err Halt.Worn → (M.seats context.now.farm.now).worn seat.new ≡ true }
-    ensures made { MatchResult result
-        (λ _. Made context.now.front.now.front (M.map_at context.now.farm.now) conn (asks_in (request ∷ []))
-        ((M.seats context.now.farm.now).mine seat.old) ((M.seats context.now.farm.now).mine seat.new)
-        (pairs waits.old.items) (pairs waits.new.items) response.old.items response.new.items)
-        (λ _. Halts context.now.front.now.front (M.map_at context.now.farm.now) conn (asks_in (request ∷ []))
-        ((M.seats context.now.farm.now).mine seat.old) ((M.seats context.now.farm.now).mine seat.new)) }
+    ensures made { AsksOne M.map_at M.seats context.now conn request seat.old seat.new
+        waits.old.items waits.new.items response.old.items response.new.items result }
 {
     let Some(cmd) = command_of(request.cmd) else {
         return Ok(());
@@ -96,7 +95,7 @@ pub fn ask<R: Wait, M: Farm>(
         front: context.front.front,
         number: conn,
     };
-    let Ok(answer) = context.farm.ask(context.rt, seat, conn, cmd, spot) else {
+    let Ok(answer) = context.farm.turn(context.rt, seat, Ask { conn, cmd, spot }) else {
         return Err(Halt::Worn);
     };
     let Ok(()) = settle(waits, response, request, answer) else {

@@ -1,13 +1,13 @@
 //! The messages of a connection, one after another.
-ghost use Rattle.std.specs.Prelude.{◌≡◌, ◌+◌, ◌-◌, ◌≤◌, true, Err, length, drop, MatchResult};
+ghost use Rattle.std.specs.Prelude.{◌≡◌, ◌+◌, true, Err};
 ghost use Rattle.front_loop.specs.Calls.{SameSeat};
 ghost use Rattle.renderd_handler.specs.declared.asking.Halt.{Halt};
-ghost use Rattle.renderd_handler.specs.inner.Reads.{asks_of, disposition_at, Halts, HasNoneNext, pairs, Reads};
+ghost use Rattle.renderd_handler.specs.inner.Reads.{disposition_at, ReadsAll};
 
 use crate::asking::{Halt, ask};
 use crate::renderd::Renderd;
 use crate::waits::Waiting;
-use front_loop::{Context, Disposition, Farm, Reason};
+use front_loop::{Context, Disposition, Farm, Piece, Reason};
 use renderd_protocol::{Found, next};
 use std::sync::Wait;
 
@@ -15,25 +15,25 @@ use std::sync::Wait;
 pub fn read_all<R: Wait, M: Farm>(
     context: &Context<'_, R, M, Renderd>,
     seat: &mut M::Seat,
-    conn: u32,
-    bytes: &[u8],
+    piece: &Piece<'_>,
     waits: &mut Vec<Waiting>,
     response: &mut Vec<u8>,
 ) -> Result<usize, Halt>
     requires seat { (M.seats context.now.farm.now).is_seat seat.old }
-    requires number { (M.seats context.now.farm.now).number seat.old ≡ context.now.front.now.front + 1 }
+    requires number { (M.seats context.now.farm.now).number seat.old
+        ≡ context.now.front.now.front + 1 }
     ensures seat { SameSeat (M.seats context.now.farm.now) seat.old seat.new }
     ensures worn { result ≡ Err Halt.Worn → (M.seats context.now.farm.now).worn seat.new ≡ true }
-    ensures read { MatchResult result
-        (λ used. (used ≤ length bytes.now) × HasNoneNext (drop used bytes.now) × Reads context.now.front.now.front (M.map_at context.now.farm.now) conn bytes.now (drop used bytes.now) ((M.seats context.now.farm.now).mine seat.old) ((M.seats context.now.farm.now).mine seat.new) (pairs waits.old.items) (pairs waits.new.items) response.old.items response.new.items)
-        (λ _. Halts context.now.front.now.front (M.map_at context.now.farm.now) conn (asks_of bytes.now) ((M.seats context.now.farm.now).mine seat.old) ((M.seats context.now.farm.now).mine seat.new)) }
+    ensures read { ReadsAll M.map_at M.seats context.now piece.now.conn piece.now.bytes.now
+        seat.old seat.new waits.old.items waits.new.items response.old.items response.new.items
+        result }
 {
     let mut used = 0;
     'messages: loop {
-        let Found::Message(request, len) = next(&bytes[used..]) else {
+        let Found::Message(request, len) = next(&piece.bytes[used..]) else {
             return Ok(used);
         };
-        ask(context, seat, conn, request, waits, response)?;
+        ask(context, seat, piece.conn, request, waits, response)?;
         used += len;
     }
 }

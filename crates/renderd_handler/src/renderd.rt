@@ -6,7 +6,7 @@ use crate::replies::answer_reply;
 use crate::waits::ConnState;
 use farm_base::Worn;
 use farm_history::Reply;
-use front_loop::{Context, Disposition, Farm, Front, Reason};
+use front_loop::{Context, Disposition, Farm, Front, Piece, Reason};
 use port_events::drop_front;
 use renderd_protocol::Request;
 use std::alloc::Global;
@@ -18,7 +18,7 @@ pub struct Renderd {
     pub front: u32,
 }
 
-impl<M: Farm> Front<M> for Renderd {
+impl Front for Renderd {
     ghost use Rattle.std.specs.Prelude.{refl};
     ghost use Rattle.renderd_handler.specs.Renderd.{renderd_rules};
     ghost use Rattle.renderd_handler.specs.inner.Reads.{Knows};
@@ -29,42 +29,38 @@ impl<M: Farm> Front<M> for Renderd {
 
     type Act = Asked;
 
-    ghost rules = { λ renderd farm. renderd_rules renderd.front (M.map_at farm) };
+    ghost rules = { λ renderd maps. renderd_rules renderd.front maps };
 
     ghost knows = { Knows };
 
     ghost alone = { λ _ _ _ _. (refl, refl) };
 
-    fn number(&self, _farm: &M) -> u32 {
+    fn number(&self) -> u32 {
         self.front
     }
 
-    fn begin(&self, alloc: Global, _farm: &M) -> ConnState {
+    fn begin(&self, alloc: Global) -> ConnState {
         ConnState {
             unread: Vec::new(alloc),
             waits: Vec::new(alloc),
         }
     }
 
-    fn hear<R: Wait>(
+    fn hear<R: Wait, M: Farm>(
         context: &Context<'_, R, M, Renderd>,
         seat: &mut M::Seat,
-        conn: u32,
         conn_state: &mut ConnState,
-        piece: &[u8],
+        piece: &Piece<'_>,
         response: &mut Vec<u8>,
     ) -> Result<Disposition, Worn> {
-        if conn_state.unread.extend_from_slice(piece).is_err() {
+        if conn_state.unread.extend_from_slice(piece.bytes).is_err() {
             return Ok(Disposition::Leaves(Reason::Starved));
         }
-        match read_all(
-            context,
-            seat,
-            conn,
-            conn_state.unread.as_slice(),
-            &mut conn_state.waits,
-            response,
-        ) {
+        let unread = Piece {
+            conn: piece.conn,
+            bytes: conn_state.unread.as_slice(),
+        };
+        match read_all(context, seat, &unread, &mut conn_state.waits, response) {
             Ok(used) => {
                 drop_front(&mut conn_state.unread, used);
                 Ok(disposition_at(conn_state.unread.as_slice()))
@@ -74,7 +70,7 @@ impl<M: Farm> Front<M> for Renderd {
         }
     }
 
-    fn reply<R: Wait>(
+    fn reply<R: Wait, M: Farm>(
         _context: &Context<'_, R, M, Renderd>,
         _seat: &mut M::Seat,
         conn_state: &mut ConnState,
@@ -87,7 +83,7 @@ impl<M: Farm> Front<M> for Renderd {
         }
     }
 
-    fn is_done(&self, _farm: &M, _conn_state: &ConnState) -> bool {
+    fn is_done(&self, _conn_state: &ConnState) -> bool {
         false
     }
 }

@@ -30,8 +30,12 @@ pub fn answer_reply(
     response: &mut Vec<u8>,
     reply: Reply,
 ) -> Result<(), NoMemory>
-    ensures response { OnOk result (response.new.items ≡ response.old.items ++ response_for (outcome_command reply.outcome) (find (is_wait reply.ask) (pairs waits.old.items))) }
-    ensures waits { pairs waits.new.items ≡ without_first (is_wait reply.ask) (pairs waits.old.items) }
+    ensures response { OnOk result
+        (response.new.items
+        ≡ response.old.items ++ response_for (outcome_command reply.outcome)
+        (find (is_wait reply.ask) (pairs waits.old.items))) }
+    ensures waits { pairs waits.new.items
+        ≡ without_first (is_wait reply.ask) (pairs waits.old.items) }
 {
     let Some(waiting) = take_wait(waits, reply.ask) else {
         return Ok(());

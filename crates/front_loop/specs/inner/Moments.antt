@@ -1,5 +1,5 @@
 -- A front at a moment, and what each step makes of one moment from another.
-use Rattle.std.specs.Prelude.{ℕ, Bool, List, map, Option, Some, Result, MatchResult}
+use Rattle.std.specs.Prelude.{ℕ, Bool, List, Option, Some, Result, MatchResult}
 use Rattle.farm_base.specs.Outside.{Outside}
 use Rattle.farm_base.specs.declared.turns.Worn.{Worn}
 use Rattle.farm_history.specs.declared.answers.Collected.{Collected}
@@ -8,13 +8,11 @@ use Rattle.port_events.specs.declared.events.PortEvent.{PortEvent}
 use Rattle.port_events.specs.declared.events.PortEvent.TheVariants as event
 use Rattle.port_events.specs.declared.ends.FrontEnd.{FrontEnd}
 use Rattle.port_events.specs.Told.{PortsTold}
-use Rattle.port_events.specs.Boxes.{as_rest}
 use Rattle.front_loop.specs.declared.hearing.Came.{Came}
 use Rattle.front_loop.specs.declared.sessions.Session.{Session}
 use Rattle.front_loop.specs.declared.sessions.SessionTable.{SessionTable}
 use Rattle.front_loop.specs.Rules.{Rules, Move}
 use Rattle.front_loop.specs.Calls.{Seats}
-use Rattle.front_loop.specs.Serving.{FrontRun}
 use Rattle.front_loop.specs.inner.Stands.{World}
 use Rattle.front_loop.specs.inner.Stages.{CutShort, Comes, CanCollect, CanOffer, CanLeave, IsOver, CanGo, Goes, CollectsOne, HearsOne, HearsWorn, RepliesOne, AnswersWorn}
 
@@ -28,10 +26,18 @@ pub record Moment (S T : Type 0) : Type 0 where
 abbrev pub at : {S T : Type 0} → Outside PortsTold → S → SessionTable T → Moment S T
 at ports seat table = record { ports = ports; seat = seat; table = table }
 
-module _ {A W T S P : Type 0} (R : Rules A W) (K : List ℕ → List (Move A) → T → Type 0) (seats : Seats S P) where
+module _ {A W T S P : Type 0} (R : Rules A W) (K : List ℕ → List (Move A) → T → Type 0)
+    (seats : Seats S P) where
   -- all that rounds are told by at a moment, where the ports tell this
   abbrev pub world_by : Option PortsTold → Moment S T → World T
-  world_by told m = record { told = told; mine = seats.mine m.seat; sessions = m.table.sessions.items; box = m.table.answers.outbox; starved = m.table.starved }
+  world_by told m =
+      record {
+        told = told;
+        mine = seats.mine m.seat;
+        sessions = m.table.sessions.items;
+        box = m.table.answers.outbox;
+        starved = m.table.starved;
+      }
 
   -- and what they told then
   abbrev pub world : Moment S T → World T
@@ -43,7 +49,8 @@ module _ {A W T S P : Type 0} (R : Rules A W) (K : List ℕ → List (Move A) �
 
   -- a round may start with this event, which came
   abbrev pub MayBeginWith : PortEvent → List ℕ → Moment S T → Type 0
-  MayBeginWith e piece old = (start was : Option PortsTold) × Comes R K e piece start old.ports.told (world_by was old)
+  MayBeginWith e piece old =
+      (start was : Option PortsTold) × Comes R K e piece start old.ports.told (world_by was old)
 
   abbrev pub MayStart : Came → Moment S T → Type 0
   MayStart came old = MayBeginWith came.event came.piece.now old
@@ -52,8 +59,10 @@ module _ {A W T S P : Type 0} (R : Rules A W) (K : List ℕ → List (Move A) �
   MayHear conn piece old = MayBeginWith (event.Bytes conn) piece old
 
   -- it started, up to the replies
-  abbrev pub BeginsWith : PortEvent → List ℕ → Moment S T → Moment S T → Result (Unit {0}) Worn → Type 0
-  BeginsWith e piece old new result = (start was : Option PortsTold) → Comes R K e piece start old.ports.told (world_by was old)
+  abbrev pub BeginsWith : PortEvent → List ℕ → Moment S T → Moment S T → Result (Unit {0}) Worn
+      → Type 0
+  BeginsWith e piece old new result =
+      (start was : Option PortsTold) → Comes R K e piece start old.ports.told (world_by was old)
       → MatchResult result (λ _. CanCollect R K e start (world new)) (λ _. IsCut start new)
 
   abbrev pub Starts : Came → Moment S T → Moment S T → Result (Unit {0}) Worn → Type 0
@@ -64,43 +73,59 @@ module _ {A W T S P : Type 0} (R : Rules A W) (K : List ℕ → List (Move A) �
 
   -- it was played to its end
   abbrev pub Plays : Came → Moment S T → Moment S T → Result (Option FrontEnd) Worn → Type 0
-  Plays came old new result = (start was : Option PortsTold) → Comes R K came.event came.piece.now start old.ports.told (world_by was old)
+  Plays came old new result =
+      (start was : Option PortsTold)
+      → Comes R K came.event came.piece.now start old.ports.told (world_by was old)
       → MatchResult result (λ end. Goes R K start (world new) end) (λ _. IsCut start new)
 
   -- replies may be collected
   abbrev pub MayCollect : Moment S T → Type 0
-  MayCollect old = (e : PortEvent) × ((start : Option PortsTold) × CanCollect R K e start (world old))
+  MayCollect old =
+      (e : PortEvent) × ((start : Option PortsTold) × CanCollect R K e start (world old))
 
   -- one Collect, with all that its reply makes
   abbrev pub Collects : Moment S T → Moment S T → Result Collected Worn → Type 0
-  Collects old new result = (e : PortEvent) (start : Option PortsTold) → CanCollect R K e start (world old)
+  Collects old new result =
+      (e : PortEvent) (start : Option PortsTold) → CanCollect R K e start (world old)
       → MatchResult result (λ x. CollectsOne R K e start (world new) x) (λ _. IsCut start new)
 
   -- all Collects, up to the one that gave no reply
   abbrev pub CollectsAll : Moment S T → Moment S T → Result Bool Worn → Type 0
-  CollectsAll old new result = (e : PortEvent) (start : Option PortsTold) → CanCollect R K e start (world old)
-      → MatchResult result (λ stopped. CanOffer R K e stopped start (world new)) (λ _. IsCut start new)
+  CollectsAll old new result =
+      (e : PortEvent) (start : Option PortsTold) → CanCollect R K e start (world old)
+      → MatchResult result (λ stopped. CanOffer R K e stopped start (world new))
+      (λ _. IsCut start new)
 
   -- bytes may be offered
   abbrev pub MayOffer : Moment S T → Type 0
-  MayOffer old = (e : PortEvent) × ((stopped : Bool) × ((start : Option PortsTold) × CanOffer R K e stopped start (world old)))
+  MayOffer old =
+      (e : PortEvent)
+      × ((stopped : Bool) × ((start : Option PortsTold) × CanOffer R K e stopped start (world old)))
 
   -- all offers
   abbrev pub OffersAll : Moment S T → Moment S T → Type 0
-  OffersAll old new = (e : PortEvent) (stopped : Bool) (start : Option PortsTold) → CanOffer R K e stopped start (world old) → CanLeave R K e stopped start (world new)
+  OffersAll old new =
+      (e : PortEvent) (stopped : Bool) (start : Option PortsTold)
+      → CanOffer R K e stopped start (world old) → CanLeave R K e stopped start (world new)
 
   -- connections may be left
   abbrev pub MayLeave : Moment S T → Type 0
-  MayLeave old = (e : PortEvent) × ((stopped : Bool) × ((start : Option PortsTold) × CanLeave R K e stopped start (world old)))
+  MayLeave old =
+      (e : PortEvent)
+      × ((stopped : Bool) × ((start : Option PortsTold) × CanLeave R K e stopped start (world old)))
 
   -- one connection is left
   abbrev pub LeavesOne : Moment S T → Moment S T → Result (Unit {0}) Worn → Type 0
-  LeavesOne old new result = (e : PortEvent) (stopped : Bool) (start : Option PortsTold) → CanLeave R K e stopped start (world old)
+  LeavesOne old new result =
+      (e : PortEvent) (stopped : Bool) (start : Option PortsTold)
+      → CanLeave R K e stopped start (world old)
       → MatchResult result (λ _. CanLeave R K e stopped start (world new)) (λ _. IsCut start new)
 
   -- all that leave are left
   abbrev pub LeavesAll : Moment S T → Moment S T → Result (Unit {0}) Worn → Type 0
-  LeavesAll old new result = (e : PortEvent) (stopped : Bool) (start : Option PortsTold) → CanLeave R K e stopped start (world old)
+  LeavesAll old new result =
+      (e : PortEvent) (stopped : Bool) (start : Option PortsTold)
+      → CanLeave R K e stopped start (world old)
       → MatchResult result (λ _. IsOver R K e stopped start (world new)) (λ _. IsCut start new)
 
   -- a round may begin
@@ -117,23 +142,18 @@ module _ {A W T S P : Type 0} (R : Rules A W) (K : List ℕ → List (Move A) �
   GoesOn old new result = (start : Option PortsTold) → CanGo R K start (world old)
       → MatchResult result (λ end. Goes R K start (world new) (Some end)) (λ _. IsCut start new)
 
-  -- a front may begin, of what its ports told as it began
-  abbrev pub MayServe : Moment S T → Type 0
-  MayServe old = CanGo R K old.ports.told (world old)
-
-  -- what a front leaves, whose table is not handed back yet
-  abbrev pub RunsTo : Moment S T → Moment S T → FrontEnd → Type 0
-  RunsTo old new end =
-      FrontRun R old.ports.told new.ports.told (seats.mine new.seat) end (map (as_rest R.number) new.table.answers.outbox) new.table.starved (seats.worn new.seat)
-
   -- a piece is heard on one session
-  abbrev pub HearsOn : List ℕ → S → S → Session T → Session T → List (ℕ × List ℕ) → List (ℕ × List ℕ) → Result (Unit {0}) Worn → Type 0
+  abbrev pub HearsOn : List ℕ → S → S → Session T → Session T → List (ℕ × List ℕ)
+      → List (ℕ × List ℕ) → Result (Unit {0}) Worn → Type 0
   HearsOn piece seat seat' s s' box box' result =
-      MatchResult result (λ _. HearsOne R K piece (seats.mine seat) (seats.mine seat') s s' box box')
+      MatchResult result
+      (λ _. HearsOne R K piece (seats.mine seat) (seats.mine seat') s s' box box')
       (λ _. HearsWorn R K s.conn piece (seats.mine seat) (seats.mine seat') s.conn_state)
 
   -- a reply comes for one session
-  abbrev pub RepliesOn : Reply → S → S → Session T → Session T → List (ℕ × List ℕ) → List (ℕ × List ℕ) → Result (Unit {0}) Worn → Type 0
+  abbrev pub RepliesOn : Reply → S → S → Session T → Session T → List (ℕ × List ℕ)
+      → List (ℕ × List ℕ) → Result (Unit {0}) Worn → Type 0
   RepliesOn reply seat seat' s s' box box' result =
-      MatchResult result (λ _. RepliesOne R K reply (seats.mine seat) (seats.mine seat') s s' box box')
+      MatchResult result
+      (λ _. RepliesOne R K reply (seats.mine seat) (seats.mine seat') s s' box box')
       (λ _. AnswersWorn R K reply (seats.mine seat) (seats.mine seat') s)

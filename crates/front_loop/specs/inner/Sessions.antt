@@ -66,7 +66,8 @@ woken s = record s { owes = true }
 
 -- a session of a connection that was just opened
 abbrev pub newcomer : {T : Type 0} → ℕ → T → Session T
-newcomer c conn_state = record { conn = c; conn_state = conn_state; disposition = Stays; owes = false }
+newcomer c conn_state =
+    record { conn = c; conn_state = conn_state; disposition = Stays; owes = false }
 
 -- the session is left
 abbrev pub leaves : Disposition → Bool
@@ -75,7 +76,8 @@ leaves (Leaves why) = true
 
 -- the session at this place has this connection, and leaves for this reason
 abbrev pub IsLeaving : {T : Type 0} → List (Session T) → ℕ → ℕ → Reason → Type 0
-IsLeaving {T} ss i c why = (s : Session T) × (StandsAt ss i s) × (s.conn ≡ c) × (s.disposition ≡ Leaves why)
+IsLeaving {T} ss i c why =
+    (s : Session T) × (StandsAt ss i s) × (s.conn ≡ c) × (s.disposition ≡ Leaves why)
 
 -- a session that stays
 abbrev pub StaysOn : {T : Type 0} → Session T → Type 0

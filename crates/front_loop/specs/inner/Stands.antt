@@ -60,17 +60,24 @@ module _ {A W : Type 0} (R : Rules A W) where
       abbrev pub has_reason : Bool
       has_reason =
           (calls r.event c || unwrap_or r.last false)
-          || (nat_lt (length (answer_bytes R p.moves)) (length (answer_bytes R (ms ++ p.moves))) || R.refuses (after r c p).given)
+          || (nat_lt (length (answer_bytes R p.moves)) (length (answer_bytes R (ms ++ p.moves)))
+          || R.refuses (after r c p).given)
 
       -- where there is a reason and nothing was offered, nothing was due
       abbrev pub NothingDue : Type 0
-      NothingDue = has_reason ≡ true → is_tried r.sends c ≡ false → drop p.took (answer_bytes R (ms ++ p.moves)) ≡ []
+      NothingDue =
+          has_reason ≡ true → is_tried r.sends c ≡ false
+          → drop p.took (answer_bytes R (ms ++ p.moves)) ≡ []
 
       -- all that its bytes ask was asked, and each move has its entries, but where a reply may lack them
       abbrev pub AllAsked : Type 0
       AllAsked =
-          R.wanted (after r c p).given (wants_of R (ms ++ p.moves)) × EachSoFar (λ ns m. R.whole ns m ≡ true) p.moves
-          × EachSoFar (λ ns m. ((ends_at r.event c || loses r.event c) || (list_any is_cut (m ∷ ns) || R.whole (ns ++ p.moves) m)) ≡ true) ms
+          R.wanted (after r c p).given (wants_of R (ms ++ p.moves))
+          × EachSoFar (λ ns m. R.whole ns m ≡ true) p.moves
+          × EachSoFar
+          (λ ns m.
+          ((ends_at r.event c || loses r.event c)
+          || (list_any is_cut (m ∷ ns) || R.whole (ns ++ p.moves) m)) ≡ true) ms
 
       -- its session stays where nothing closes it, and leaves with its cause
       abbrev pub DispositionFits : Disposition → Type 0
@@ -79,7 +86,8 @@ module _ {A W : Type 0} (R : Rules A W) where
       DispositionFits (Leaves why) = closes R p r c ms why ≡ true
 
   -- what is told by these rounds
-  pub record AreTold (start told : Option PortsTold) (mine : List Entry) (starved : ℕ) (rs : List (FrontRound A)) : Type 0 where
+  pub record AreTold (start told : Option PortsTold) (mine : List Entry) (starved : ℕ)
+      (rs : List (FrontRound A)) : Type 0 where
     pub entries : mine ≡ own R rs
     pub telling : told ≡ option_map (told_after R rs) start
     pub coming : IfSome start (EachMayCome rs)
@@ -87,7 +95,8 @@ module _ {A W : Type 0} (R : Rules A W) where
     pub counted : starved ≡ min (starved_in rs) (2 ^ 64 - 1)
 
   -- the sessions, their rests and all else are those of these rounds
-  pub record Stands {T : Type 0} (start : Option PortsTold) (rs : List (FrontRound A)) (w : World T) : Type 0 where
+  pub record Stands {T : Type 0} (start : Option PortsTold) (rs : List (FrontRound A)) (w : World T)
+      : Type 0 where
     pub are_told : AreTold start w.told w.mine w.starved rs
     pub conns_are : conns w.sessions ≡ there rs
     pub keys_are : keys w.box ≡ there rs
@@ -117,7 +126,8 @@ module _ {A W T : Type 0} (R : Rules A W) (K : List ℕ → List (Move A) → T 
       pub asked_all : asks_all s.disposition ≡ true → AllAsked R p r c ms
 
   -- a session between two rounds, of whose connection this stands
-  pub record Waits (q : Standing A) (s : Session T) (told : Option PortsTold) (box : List (ℕ × List ℕ)) : Type 0 where
+  pub record Waits (q : Standing A) (s : Session T) (told : Option PortsTold)
+      (box : List (ℕ × List ℕ)) : Type 0 where
     pub rested : IsAtRest s
     pub rest_there : HasRest box s.conn
     pub opening : IsOpen s.conn told
@@ -130,12 +140,16 @@ module _ {A W T : Type 0} (R : Rules A W) (K : List ℕ → List (Move A) → T 
     pub read : R.refuses q.given ≡ false
 
   -- another round may follow these
-  pub record CanBegin (start : Option PortsTold) (rs : List (FrontRound A)) (w : World T) : Type 0 where
+  pub record CanBegin (start : Option PortsTold) (rs : List (FrontRound A)) (w : World T)
+      : Type 0 where
     pub stands : Stands R start rs w
     pub follows : MayFollow R rs
     pub each : Each (λ (s : Session T). Waits (conn rs s.conn) s w.told w.box) w.sessions
 
   -- a round is being made after these
-  pub record Makes (start : Option PortsTold) (rs : List (FrontRound A)) (r : FrontRound A) (w : World T) : Type 0 where
+  pub record Makes (start : Option PortsTold) (rs : List (FrontRound A)) (r : FrontRound A)
+      (w : World T) : Type 0 where
     pub stands : Stands R start (r ∷ rs) w
-    pub each : Each (λ (s : Session T). Sits (before rs r s.conn) r s.conn (made r s.conn) s w.told w.box) w.sessions
+    pub each :
+        Each (λ (s : Session T). Sits (before rs r s.conn) r s.conn (made r s.conn) s w.told w.box)
+        w.sessions

@@ -1,5 +1,5 @@
 -- What is read of a connection's bytes, and what is kept of it.
-use Rattle.std.specs.Prelude.{◌≡◌, ◌==◌, ℕ, Bool, cond, List, [], ◌∷◌, ◌++◌, filter, map, Option, option_map, option_to_list, unwrap_or}
+use Rattle.std.specs.Prelude.{◌≡◌, ◌==◌, ◌≤◌, ℕ, Bool, cond, List, [], ◌∷◌, ◌++◌, drop, filter, length, map, MatchResult, Option, option_map, option_to_list, Result, unwrap_or}
 use Rattle.std.specs.Option.{is_some}
 use Rattle.renderd_protocol.specs.declared.messages.Request.{Request}
 use Rattle.renderd_protocol.specs.declared.messages.Found.TheVariants.{Message}
@@ -13,9 +13,13 @@ use Rattle.farm_history.specs.Entries.{Entry, Ask}
 use Rattle.front_loop.specs.declared.dispositions.Disposition.{Disposition}
 use Rattle.front_loop.specs.declared.dispositions.Disposition.TheVariants.{Stays, Leaves}
 use Rattle.front_loop.specs.declared.dispositions.Reason.TheVariants as reason
+use Rattle.front_loop.specs.Calls.{Seats}
+use Rattle.front_loop.specs.declared.context.Context.{Context}
 use Rattle.front_loop.specs.Rules.{Move}
 use Rattle.front_loop.specs.Front.{with_acts}
 use Rattle.renderd_handler.specs.declared.asked.Asked.{Asked}
+use Rattle.renderd_handler.specs.declared.asking.Halt.{Halt}
+use Rattle.renderd_handler.specs.declared.renderd.Renderd.{Renderd}
 use Rattle.renderd_handler.specs.declared.waits.Waiting.{Waiting}
 use Rattle.renderd_handler.specs.declared.waits.ConnState.{ConnState}
 use Rattle.renderd_handler.specs.Renderd.{command_of, answer_command, is_bad, response_to, waiting_requests, with_wait, renderd_rules}
@@ -27,7 +31,8 @@ asks_by conn command spot a = option_to_list (option_map (λ c. Ask conn c spot 
 
 -- nothing is answered where no request waits for the reply
 abbrev pub response_for : Option ℕ → Option (ℕ × Request) → List ℕ
-response_for command waits = unwrap_or (option_map (λ (w : ℕ × Request). response_to command w.1) waits) []
+response_for command waits =
+    unwrap_or (option_map (λ (w : ℕ × Request). response_to command w.1) waits) []
 
 -- the requests that are asked: those with another command are skipped
 abbrev pub asks_in : List Request → List Request
@@ -67,7 +72,9 @@ abbrev pub HasNoneNext : List ℕ → Type 0
 HasNoneNext bytes = (request : Request) (len : ℕ) → found_in bytes ≡ Message request len → ⊥
 
 -- These requests were asked, answered and kept
-pub record Made (front : ℕ) (maps : List ℕ → Option ℕ) (c : ℕ) (asks : List Request) (mine mine' : List Entry) (waits waits' : List (ℕ × Request)) (response response' : List ℕ) : Type 0 where
+pub record Made (front : ℕ) (maps : List ℕ → Option ℕ) (c : ℕ) (asks : List Request)
+    (mine mine' : List Entry) (waits waits' : List (ℕ × Request)) (response response' : List ℕ)
+    : Type 0 where
   pub acts : List Asked
   pub mine_is : mine' ≡ with_acts (renderd_rules front maps) c acts mine
   pub asks_are : asks ≡ requests_of acts
@@ -75,18 +82,50 @@ pub record Made (front : ℕ) (maps : List ℕ → Option ℕ) (c : ℕ) (asks :
   pub response_is : response' ≡ response ++ response_by acts
 
 -- the asking was given up, after the first of these requests were asked
-pub record Halts (front : ℕ) (maps : List ℕ → Option ℕ) (c : ℕ) (asks : List Request) (mine mine' : List Entry) : Type 0 where
+pub record Halts (front : ℕ) (maps : List ℕ → Option ℕ) (c : ℕ) (asks : List Request)
+    (mine mine' : List Entry) : Type 0 where
   pub acts : List Asked
   pub more : List Request
   pub mine_is : mine' ≡ with_acts (renderd_rules front maps) c acts mine
   pub asks_are : asks ≡ requests_of acts ++ more
 
 -- the bytes were read up to this rest: the asks that stand before it were made
-pub record Reads (front : ℕ) (maps : List ℕ → Option ℕ) (c : ℕ) (bytes rest : List ℕ) (mine mine' : List Entry) (waits waits' : List (ℕ × Request)) (response response' : List ℕ) : Type 0 where
+pub record Reads (front : ℕ) (maps : List ℕ → Option ℕ) (c : ℕ) (bytes rest : List ℕ)
+    (mine mine' : List Entry) (waits waits' : List (ℕ × Request)) (response response' : List ℕ)
+    : Type 0 where
   pub asks : List Request
   pub made : Made front maps c asks mine mine' waits waits' response response'
   pub whole : asks_of bytes ≡ asks ++ asks_of rest
   pub left : (stream_read bytes).rest ≡ (stream_read rest).rest
+
+-- What follows is done on a farm's seat, by a front at it, on the connection of this number.
+module _ {R M S P : Type 0} (map_at : M → List ℕ → Option ℕ) (seats : M → Seats S P)
+    (work : Context R M Renderd) (c : ℕ) where
+  -- a request was asked, or the asking was given up
+  abbrev pub AsksOne : Request → S → S → List Waiting → List Waiting → List ℕ → List ℕ
+      → Result (Unit {0}) Halt → Type 0
+  AsksOne request seat seat' waits waits' response response' result =
+      let front = work.front.now.front in
+      let maps = map_at work.farm.now in
+      let mine = (seats work.farm.now).mine in
+      MatchResult result
+      (λ _. Made front maps c (asks_in (request ∷ [])) (mine seat) (mine seat') (pairs waits)
+      (pairs waits') response response')
+      (λ _. Halts front maps c (asks_in (request ∷ [])) (mine seat) (mine seat'))
+
+  -- the whole messages that the bytes begin with were read, up to the bytes that are left; or the
+  -- asking was given up
+  abbrev pub ReadsAll : List ℕ → S → S → List Waiting → List Waiting → List ℕ → List ℕ
+      → Result ℕ Halt → Type 0
+  ReadsAll bytes seat seat' waits waits' response response' result =
+      let front = work.front.now.front in
+      let maps = map_at work.farm.now in
+      let mine = (seats work.farm.now).mine in
+      MatchResult result
+      (λ used. (used ≤ length bytes) × HasNoneNext (drop used bytes)
+      × Reads front maps c bytes (drop used bytes) (mine seat) (mine seat') (pairs waits)
+      (pairs waits') response response')
+      (λ _. Halts front maps c (asks_of bytes) (mine seat) (mine seat'))
 
 -- what is kept of a connection is the bytes after its last whole message, and its asks that wait
 pub record Knows (given : List ℕ) (ms : List (Move Asked)) (conn_state : ConnState) : Type 0 where

@@ -11,7 +11,7 @@ loop-tile-init g c = record {
 
 pub loop-tile-preserved : goal.loop-tile-preserved
 loop-tile-preserved g c = record {
-  seat = same_trans (g.M.Farm.seats c.args.farm.now) c.args.seat.now c.loop-tile.seat c.expire.new.seat c.loop-tile.invariant.seat c.expire.ensures.same;
+  seat = same_trans (g.M.Farm.seats c.args.farm.now) c.args.seat.now c.loop-tile.seat c.turn.new.seat c.loop-tile.invariant.seat c.turn.ensures.same;
   expired = expiring_more c.args.tiles.now c.loop-tile.tile-index _ _ _ _ c.loop-tile.total c.in-Ok.count _ c.loop-tile-test.true c.loop-tile.invariant.expired c.in-Ok.ensures.takes
       c.saturating_add-total.ensures;
 }

@@ -19,5 +19,5 @@ returns-in_default-close_one-clause-goes g c = λ e stopped start h. c.in_defaul
 
 pub returns-clause-goes : goal.returns-clause-goes
 returns-clause-goes g c = λ e stopped start h.
-    over (g.F.Front.rules c.args.work.now.front.now c.args.work.now.farm.now) g.F.Front.knows e stopped start _ (c.loop-place.invariant.goes e stopped start h)
+    over (g.F.Front.rules c.args.work.now.front.now (g.M.Farm.map_at c.args.work.now.farm.now)) g.F.Front.knows e stopped start _ (c.loop-place.invariant.goes e stopped start h)
     (subst (λ (ss : List (Session g.row.F-ConnState.Denot)). Each StaysOn ss) c.as_slice.ensures.value c.in_default.ensures.none)

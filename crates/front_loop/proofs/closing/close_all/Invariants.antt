@@ -8,7 +8,7 @@ use Rattle.front_loop.proofs.closing.close_all.Given as goal
 
 abbrev pub invariant-loop-place : goal.invariant-loop-place
 invariant-loop-place g l =
-    let R = g.F.Front.rules l.work.front.now l.work.farm.now in
+    let R = g.F.Front.rules l.work.front.now (g.M.Farm.map_at l.work.farm.now) in
     let seats = g.M.Farm.seats l.work.farm.now in
     record {
       seat : SameSeat seats l.fn.seat l.seat;

@@ -21,13 +21,13 @@ pub loop-preserved : goal.loop-preserved
 loop-preserved g c = record {
   seat = same_trans (g.M.Farm.seats c.args.work.now.farm.now) c.args.seat.now c.loop.seat c.collect_one.new.seat c.loop.invariant.seat c.collect_one.ensures.seat;
   goes = λ o e start h.
-      subst (CollectsOne (g.F.Front.rules c.args.work.now.front.now c.args.work.now.farm.now) g.F.Front.knows e start _) c.in-Reply.is (c.in-Ok.ensures.goes o e start (c.loop.invariant.goes o e start h));
+      subst (CollectsOne (g.F.Front.rules c.args.work.now.front.now (g.M.Farm.map_at c.args.work.now.farm.now)) g.F.Front.knows e start _) c.in-Reply.is (c.in-Ok.ensures.goes o e start (c.loop.invariant.goes o e start h));
 }
 
 pub returns-in-Stopped-clause-goes : goal.returns-in-Stopped-clause-goes
 returns-in-Stopped-clause-goes g c = λ o e start h.
-    subst (CollectsOne (g.F.Front.rules c.args.work.now.front.now c.args.work.now.farm.now) g.F.Front.knows e start _) c.in-Stopped.is (c.in-Ok.ensures.goes o e start (c.loop.invariant.goes o e start h))
+    subst (CollectsOne (g.F.Front.rules c.args.work.now.front.now (g.M.Farm.map_at c.args.work.now.farm.now)) g.F.Front.knows e start _) c.in-Stopped.is (c.in-Ok.ensures.goes o e start (c.loop.invariant.goes o e start h))
 
 pub returns-in-Empty-clause-goes : goal.returns-in-Empty-clause-goes
 returns-in-Empty-clause-goes g c = λ o e start h.
-    subst (CollectsOne (g.F.Front.rules c.args.work.now.front.now c.args.work.now.farm.now) g.F.Front.knows e start _) c.in-Empty.is (c.in-Ok.ensures.goes o e start (c.loop.invariant.goes o e start h))
+    subst (CollectsOne (g.F.Front.rules c.args.work.now.front.now (g.M.Farm.map_at c.args.work.now.farm.now)) g.F.Front.knows e start _) c.in-Empty.is (c.in-Ok.ensures.goes o e start (c.loop.invariant.goes o e start h))

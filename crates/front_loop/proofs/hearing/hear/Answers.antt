@@ -9,17 +9,17 @@ use Rattle.front_loop.proofs.hearing.hear.Goals as goal
 
 pub returns-in_default-clause-goes : goal.returns-in_default-clause-goes
 returns-in_default-clause-goes g c = λ o start was m.
-    bytes_none (g.F.Front.rules c.args.work.now.front.now c.args.work.now.farm.now) g.F.Front.knows c.args.conn c.args.piece.now start o.told _ m
+    bytes_none (g.F.Front.rules c.args.work.now.front.now (g.M.Farm.map_at c.args.work.now.farm.now)) g.F.Front.knows c.args.conn c.args.piece.now start o.told _ m
     (subst (λ (ss : List (Session g.row.F-ConnState.Denot)). has (conns ss) c.args.conn ≡ false) c.as_slice.ensures.value c.in_default.ensures.none)
 
 pub hear_one-requires-clause-rest : goal.hear_one-requires-clause-rest
 hear_one-requires-clause-rest g c =
-    rest_of_place (g.F.Front.rules c.args.work.now.front.now c.args.work.now.farm.now) g.F.Front.knows _ _ _ _ _ c.in-Some.place c.index_mut.result.now c.requires.ready.1.2
+    rest_of_place (g.F.Front.rules c.args.work.now.front.now (g.M.Farm.map_at c.args.work.now.farm.now)) g.F.Front.knows _ _ _ _ _ c.in-Some.place c.index_mut.result.now c.requires.ready.1.2
     (stands_at c.args.table.now.sessions.items c.as_slice.result.now c.in-Some.place c.index_mut.result.now c.as_slice.ensures.value c.in-Some.ensures.some.0 c.index_mut.ensures.value)
 
 pub returns-clause-goes : goal.returns-clause-goes
 returns-clause-goes g c = λ o start was m.
-    let R = g.F.Front.rules c.args.work.now.front.now c.args.work.now.farm.now in
+    let R = g.F.Front.rules c.args.work.now.front.now (g.M.Farm.map_at c.args.work.now.farm.now) in
     let seats = g.M.Farm.seats c.args.work.now.farm.now in
     let at = stands_at c.args.table.now.sessions.items c.as_slice.result.now c.in-Some.place c.index_mut.result.now c.as_slice.ensures.value c.in-Some.ensures.some.0 c.index_mut.ensures.value in
     let is = conn_at c.args.table.now.sessions.items c.as_slice.result.now c.in-Some.place c.index_mut.result.now c.args.conn c.as_slice.ensures.value c.in-Some.ensures.some.1 at in

@@ -35,7 +35,7 @@ returns-in_default-close_all-clause-goes g c = λ start was m.
 
 pub returns-clause-goes : goal.returns-clause-goes
 returns-clause-goes g c = λ start was m.
-    let R = g.F.Front.rules c.args.work.now.front.now c.args.work.now.farm.now in
+    let R = g.F.Front.rules c.args.work.now.front.now (g.M.Farm.map_at c.args.work.now.farm.now) in
     let o = c.in-Ok-collect_all.ensures.goes (g.P.Ports.state c.take_event.new.ports) c.args.came.now.event start (c.in-Ok.ensures.goes start was m) in
     let v = c.in-Ok-close_all.ensures.goes c.args.came.now.event c.in-Ok-collect_all.stopped start (c.offer_all.ensures.goes c.collect_all.new.seat c.args.came.now.event c.in-Ok-collect_all.stopped start o) in
     subst (Goes R g.F.Front.knows start _) (sym c.end_after.ensures.end) (goes_by R g.F.Front.knows c.args.came.now.event c.in-Ok-collect_all.stopped start _ v)

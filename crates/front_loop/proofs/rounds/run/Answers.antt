@@ -19,11 +19,11 @@ loop-preserved g c = record {
       let b = c.round.ensures.count in
       omega (arith, a, b);
   goes = λ start h.
-      subst (Goes (g.F.Front.rules c.args.work.now.front.now c.args.work.now.farm.now) g.F.Front.knows start _) c.in_default-end.is
+      subst (Goes (g.F.Front.rules c.args.work.now.front.now (g.M.Farm.map_at c.args.work.now.farm.now)) g.F.Front.knows start _) c.in_default-end.is
       (c.in-Ok.ensures.goes start (c.loop.invariant.goes start h));
 }
 
 pub returns-in-Some-end-clause-goes : goal.returns-in-Some-end-clause-goes
 returns-in-Some-end-clause-goes g c = λ start h.
-    subst (Goes (g.F.Front.rules c.args.work.now.front.now c.args.work.now.farm.now) g.F.Front.knows start _) c.in-Some-end.is
+    subst (Goes (g.F.Front.rules c.args.work.now.front.now (g.M.Farm.map_at c.args.work.now.farm.now)) g.F.Front.knows start _) c.in-Some-end.is
     (c.in-Ok.ensures.goes start (c.loop.invariant.goes start h))

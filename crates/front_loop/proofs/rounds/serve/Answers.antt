@@ -1,19 +1,32 @@
-use Rattle.std.proofs.Common.{◌∙◌, List, map, refl, sym, ap, subst}
-use Rattle.port_events.specs.declared.ends.Rest.{Rest}
-use Rattle.port_events.specs.Boxes.{as_rest}
-use Rattle.front_loop.specs.Serving.{FrontRun}
-use Rattle.front_loop.proofs.Goings.{begins}
+use Rattle.std.proofs.Common.{refl}
+use Rattle.front_loop.proofs.Goings.{begins, handed_back, runs_end, runs_worn}
 use Rattle.front_loop.proofs.rounds.serve.Goals as goal
 
-pub serve_at-end-requires-clause-ready : goal.serve_at-end-requires-clause-ready
-serve_at-end-requires-clause-ready g c =
-    begins (g.F.Front.rules c.args.front.now c.args.farm.now) g.F.Front.knows (g.P.Ports.state c.args.ports.now).told _
-    refl c.requires.fresh c.new-table.ensures.sessions c.new-table.ensures.outbox c.new-table.ensures.starved
+pub run-requires-clause-ready : goal.run-requires-clause-ready
+run-requires-clause-ready g c = (
+  (g.P.Ports.state c.args.ports.now).told,
+  begins (g.F.Front.rules c.args.work.now.front.now (g.M.Farm.map_at c.args.work.now.farm.now)) g.F.Front.knows (g.P.Ports.state c.args.ports.now).told _
+      refl c.requires.fresh c.new-table.ensures.sessions c.new-table.ensures.outbox c.new-table.ensures.starved,
+)
 
-pub returns-clause-served : goal.returns-clause-served
-returns-clause-served g c =
-    let seats = g.M.Farm.seats c.args.farm.now in
-    subst (λ (rs : List Rest). FrontRun (g.F.Front.rules c.args.front.now c.args.farm.now) (g.P.Ports.state c.args.ports.now).told (g.P.Ports.state c.serve_at-end.new.ports).told
-    (seats.mine c.serve_at-end.new.seat) c.serve_at-end.result rs c.serve_at-end.new.table.starved (seats.worn c.serve_at-end.new.seat))
-    (sym (c.into_rests-rests.ensures ∙ ap (λ n. map (as_rest n) c.serve_at-end.new.table.answers.outbox) c.number-number.ensures))
-    c.serve_at-end.ensures.served
+pub returns-in-Ok-clause-served : goal.returns-in-Ok-clause-served
+returns-in-Ok-clause-served g c =
+    let seats = g.M.Farm.seats c.args.work.now.farm.now in
+    let maps = g.M.Farm.map_at c.args.work.now.farm.now in
+    let R = g.F.Front.rules c.args.work.now.front.now maps in
+    let start = (g.P.Ports.state c.args.ports.now).told in
+    handed_back R g.F.Front.knows start (g.P.Ports.state c.run.new.ports).told (seats.mine c.stop_after-end.new.seat) c.stop_after-end.result c.run.new.table.answers.outbox c.run.new.table.starved
+    c.number-front.result (seats.worn c.stop_after-end.new.seat) c.done_by.result (c.number-front.ensures maps) c.done_by.ensures.end c.done_by.ensures.rests c.done_by.ensures.starved
+    (runs_end R g.F.Front.knows start _ (seats.mine c.stop_after-end.new.seat) c.in-Ok.end c.stop_after-end.result (seats.worn c.stop_after-end.new.seat) (c.in-Ok.ensures.goes start (begins R g.F.Front.knows start _ refl c.requires.fresh c.new-table.ensures.sessions c.new-table.ensures.outbox c.new-table.ensures.starved))
+    c.stop_after-end.ensures.stops)
+
+pub returns-in-Err-clause-served : goal.returns-in-Err-clause-served
+returns-in-Err-clause-served g c =
+    let seats = g.M.Farm.seats c.args.work.now.farm.now in
+    let maps = g.M.Farm.map_at c.args.work.now.farm.now in
+    let R = g.F.Front.rules c.args.work.now.front.now maps in
+    let start = (g.P.Ports.state c.args.ports.now).told in
+    handed_back R g.F.Front.knows start (g.P.Ports.state c.run.new.ports).told (seats.mine c.run.new.seat) _ c.run.new.table.answers.outbox c.run.new.table.starved
+    c.number-front.result (seats.worn c.run.new.seat) c.done_by-in-Err.result (c.number-front.ensures maps) c.done_by-in-Err.ensures.end c.done_by-in-Err.ensures.rests c.done_by-in-Err.ensures.starved
+    (runs_worn R g.F.Front.knows start (g.P.Ports.state c.run.new.ports).told (seats.mine c.run.new.seat) c.run.new.table.answers.outbox c.run.new.table.starved (seats.worn c.run.new.seat)
+    (c.in-Err.ensures.goes start (begins R g.F.Front.knows start _ refl c.requires.fresh c.new-table.ensures.sessions c.new-table.ensures.outbox c.new-table.ensures.starved)) c.in-Err.ensures.worn)

@@ -10,25 +10,25 @@ use Rattle.http_handler.proofs.hearing.hear_piece.Goals as goal
 pub returns-then-not-is_reading-clause-heard : goal.returns-then-not-is_reading-clause-heard
 returns-then-not-is_reading-clause-heard g c =
     let idle : is_reading c.args.conn_state.now.stage ≡ false = search rules in
-    hears_idle c.args.context.now.front.now.front (g.M.Farm.map_at c.args.context.now.farm.now) c.args.conn c.args.piece.now ((g.M.Farm.seats c.args.context.now.farm.now).mine c.args.seat.now) c.args.conn_state.now
+    hears_idle c.args.context.now.front.now.front (g.M.Farm.map_at c.args.context.now.farm.now) c.args.piece.now.conn c.args.piece.now.bytes.now ((g.M.Farm.seats c.args.context.now.farm.now).mine c.args.seat.now) c.args.conn_state.now
     c.args.response.now.items idle c.requires.empty
 
 pub returns-in_default-clause-heard : goal.returns-in_default-clause-heard
 returns-in_default-clause-heard g c =
     let reads : is_reading c.args.conn_state.now.stage ≡ true = search rules in
-    hears_starved c.args.context.now.front.now.front (g.M.Farm.map_at c.args.context.now.farm.now) c.args.conn c.args.piece.now _ _ c.args.conn_state.now _ _ _ reads (refl, refl)
+    hears_starved c.args.context.now.front.now.front (g.M.Farm.map_at c.args.context.now.farm.now) c.args.piece.now.conn c.args.piece.now.bytes.now _ _ c.args.conn_state.now _ _ _ reads (refl, refl)
 
 pub returns-in_default-http_ask_in-clause-heard : goal.returns-in_default-http_ask_in-clause-heard
 returns-in_default-http_ask_in-clause-heard g c =
     let reads : is_reading c.args.conn_state.now.stage ≡ true = search rules in
     let opens : IsOpen c.read_part.result.now = rw c.in_default-http_ask_in.is at c.http_ask_in.ensures in
-    hears_open c.args.context.now.front.now.front (g.M.Farm.map_at c.args.context.now.farm.now) c.args.conn c.args.piece.now _ c.args.conn_state.now _ _ c.requires.empty reads refl c.in-Ok.ensures
+    hears_open c.args.context.now.front.now.front (g.M.Farm.map_at c.args.context.now.farm.now) c.args.piece.now.conn c.args.piece.now.bytes.now _ c.args.conn_state.now _ _ c.requires.empty reads refl c.in-Ok.ensures
     (subst (λ (b : List ℕ). IsOpen b) (c.read_part.ensures ∙ ap bytes_read c.as_slice.ensures.value) opens)
 
 pub returns-clause-heard : goal.returns-clause-heard
 returns-clause-heard g c =
     let reads : is_reading c.args.conn_state.now.stage ≡ true = search rules in
-    hears_http_ask c.args.context.now.front.now.front (g.M.Farm.map_at c.args.context.now.farm.now) (record { front = c.args.context.now.front.now.front; number = c.args.conn }) c.args.piece.now c.in-Some.http_ask _ _ c.args.conn_state.now _ _ _ refl reads c.in-Ok.ensures
+    hears_http_ask c.args.context.now.front.now.front (g.M.Farm.map_at c.args.context.now.farm.now) (record { front = c.args.context.now.front.now.front; number = c.args.piece.now.conn }) c.args.piece.now.bytes.now c.in-Some.http_ask _ _ c.args.conn_state.now _ _ _ refl reads c.in-Ok.ensures
     (subst (λ (b : List ℕ). BytesAsk (g.M.Farm.map_at c.args.context.now.farm.now) b c.in-Some.http_ask) (c.read_part.ensures ∙ ap bytes_read c.as_slice.ensures.value) c.in-Some.ensures)
     c.serve_http_ask.ensures.does
 

@@ -6,10 +6,10 @@ use Rattle.renderd_handler.proofs.messages.read_all.Given as goal
 abbrev pub invariant-messages : goal.invariant-messages
 invariant-messages g l = record {
   seat : SameSeat (g.M.Farm.seats l.context.farm.now) l.fn.seat l.seat;
-  within : l.used ≤ length l.bytes;
-  read : Reads l.context.front.now.front (g.M.Farm.map_at l.context.farm.now) l.conn l.bytes (drop l.used l.bytes) ((g.M.Farm.seats l.context.farm.now).mine l.fn.seat) ((g.M.Farm.seats l.context.farm.now).mine l.seat)
+  within : l.used ≤ length l.piece.bytes.now;
+  read : Reads l.context.front.now.front (g.M.Farm.map_at l.context.farm.now) l.piece.conn l.piece.bytes.now (drop l.used l.piece.bytes.now) ((g.M.Farm.seats l.context.farm.now).mine l.fn.seat) ((g.M.Farm.seats l.context.farm.now).mine l.seat)
       (pairs l.fn.waits.items) (pairs l.waits.items) l.fn.response.items l.response.items;
 }
 
 abbrev pub decreases-messages : goal.decreases-messages
-decreases-messages g l = length l.bytes - l.used
+decreases-messages g l = length l.piece.bytes.now - l.used

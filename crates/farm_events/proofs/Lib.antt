@@ -1,0 +1,4 @@
+pub mod Orders
+pub mod Flying
+pub mod Replying
+pub mod Steps

@@ -1,0 +1,4 @@
+pub mod Seats
+pub mod Afters
+pub mod Promises
+pub mod Needs
