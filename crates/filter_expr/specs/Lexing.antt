@@ -8,7 +8,7 @@ use Rattle.filter_expr.specs.declared.tokens.Token.TheVariants as token
 use Rattle.filter_expr.specs.declared.tokens.PlacedToken.{PlacedToken}
 use Rattle.filter_expr.specs.declared.lexer.Run.{Run}
 use Rattle.filter_expr.specs.declared.lexer.Run.TheVariants.{Digits, Word, Name, Plain}
-use Rattle.filter_expr.specs.Trees.{is_unknown}
+use Rattle.filter_expr.specs.Signs.{is_unknown}
 use Rattle.farm_base.specs.Digits.{is_digit}
 use Rattle.filter_expr.specs.Spelling.{is_blank, is_letter, is_word_byte, is_quote, is_escaped, is_attribute_byte, digits_number}
 
@@ -33,7 +33,9 @@ run_test Plain = is_plain_byte
 
 -- the token of a run of digits: a number, or one out of range from 2^63 on
 unfoldable pub number_token : List ℕ → Token
-number_token ds = if nat_lt (digits_number ds) (2 ^ 63) then token.Number (pos (digits_number ds)) else token.OutOfRange
+number_token ds =
+    if nat_lt (digits_number ds) (2 ^ 63) then token.Number (pos (digits_number ds))
+    else token.OutOfRange
 
 -- the number at the front of bytes that begin with a digit, and how many digits it has
 unfoldable pub number_token_at : List ℕ → Taken
@@ -59,7 +61,10 @@ unfoldable pub name_token_at : List ℕ → Taken
 name_token_at bs =
     if prefix_len is_attribute_byte bs == 0 then nothing
     else (if nat_lt (prefix_len is_attribute_byte bs) (length bs)
-    then (token.Name (take (prefix_len is_attribute_byte bs) bs), prefix_len is_attribute_byte bs + 2)
+    then (
+      token.Name (take (prefix_len is_attribute_byte bs) bs),
+      prefix_len is_attribute_byte bs + 2,
+    )
     else nothing)
 
 -- a count that is greater by one, if there is a count
@@ -116,7 +121,9 @@ sign_at b c =
     if b == 61 then (token.Compare compare.Equal, 1)
     else (if b == 33 then (if c == 61 then (token.Compare compare.Unequal, 2) else (token.Not, 1))
     else (if b == 60 then less_at c
-    else (if b == 62 then (if c == 61 then (token.Compare compare.GreaterEqual, 2) else (token.Compare compare.Greater, 1))
+    else (if b == 62
+    then (if c == 61 then (token.Compare compare.GreaterEqual, 2)
+    else (token.Compare compare.Greater, 1))
     else (if b == 38 then (if c == 38 then (token.And, 2) else nothing)
     else (if b == 124 then (if c == 124 then (token.Or, 2) else nothing)
     else (single b, 1))))))
@@ -143,5 +150,7 @@ tokens_from at left [] = record { token = token.End; offset = at } ∷ []
 tokens_from at (suc left) (b ∷ bs) = tokens_from (suc at) left bs
 tokens_from at zero (b ∷ bs) =
     if is_blank b then tokens_from (suc at) zero bs
-    else (if is_unknown (token_at (b ∷ bs)).0 then record { token = token.Unknown; offset = at } ∷ []
-    else record { token = (token_at (b ∷ bs)).0; offset = at } ∷ tokens_from (suc at) ((token_at (b ∷ bs)).1 - 1) bs)
+    else (if is_unknown (token_at (b ∷ bs)).0
+    then record { token = token.Unknown; offset = at } ∷ []
+    else record { token = (token_at (b ∷ bs)).0; offset = at }
+    ∷ tokens_from (suc at) ((token_at (b ∷ bs)).1 - 1) bs)

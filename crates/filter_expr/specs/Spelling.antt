@@ -54,9 +54,12 @@ IsQuoting q (c ∷ cs) us =
 
 -- the bytes spell the token
 abbrev pub SpellsToken : Token → List ℕ → Type 0
-SpellsToken (token.Name n) us = (us ≡ 91 ∷ (n ++ 93 ∷ [])) × (n ≢ []) × IsTrue (list_all is_attribute_byte n)
-SpellsToken (token.Quoted t) us = (q : ℕ) × (vs : List ℕ) × (us ≡ q ∷ (vs ++ q ∷ [])) × IsTrue (is_quote q) × IsQuoting q t vs
-SpellsToken (token.Number z) us = IsDigits us × (z ≡ pos (digits_number us)) × (digits_number us < 2 ^ 63)
+SpellsToken (token.Name n) us =
+    (us ≡ 91 ∷ (n ++ 93 ∷ [])) × (n ≢ []) × IsTrue (list_all is_attribute_byte n)
+SpellsToken (token.Quoted t) us =
+    (q : ℕ) × (vs : List ℕ) × (us ≡ q ∷ (vs ++ q ∷ [])) × IsTrue (is_quote q) × IsQuoting q t vs
+SpellsToken (token.Number z) us =
+    IsDigits us × (z ≡ pos (digits_number us)) × (digits_number us < 2 ^ 63)
 SpellsToken token.OutOfRange us = IsDigits us × (2 ^ 63 ≤ digits_number us)
 SpellsToken token.True us = us ≡ codes "true"
 SpellsToken token.False us = us ≡ codes "false"
@@ -84,8 +87,10 @@ SpellsToken token.Unknown us = ⊥
 
 -- all signs of filters, as they are spelled
 abbrev pub signs : List (List ℕ)
-signs = codes "=" ∷ codes "!=" ∷ codes "<>" ∷ codes "<" ∷ codes "<=" ∷ codes ">" ∷ codes ">=" ∷ codes "&&" ∷ codes "||"
-    ∷ codes "!" ∷ codes "+" ∷ codes "-" ∷ codes "*" ∷ codes "/" ∷ codes "%" ∷ codes "(" ∷ codes ")" ∷ []
+signs =
+    codes "=" ∷ codes "!=" ∷ codes "<>" ∷ codes "<" ∷ codes "<=" ∷ codes ">" ∷ codes ">="
+    ∷ codes "&&" ∷ codes "||" ∷ codes "!" ∷ codes "+" ∷ codes "-" ∷ codes "*" ∷ codes "/"
+    ∷ codes "%" ∷ codes "(" ∷ codes ")" ∷ []
 
 -- there is a first byte, and it passes the test
 abbrev pub begins_with : (ℕ → Bool) → List ℕ → Bool
@@ -116,7 +121,8 @@ StandsFirst t us more = SpellsToken t us × EndsBefore us more
 abbrev pub AreTokens : ℕ → List ℕ → List PlacedToken → Type 0
 AreTokens at bytes [] = ⊥
 AreTokens at bytes (s ∷ others) =
-    (gap : List ℕ) × (us : List ℕ) × (more : List ℕ) × (bytes ≡ gap ++ (us ++ more)) × IsTrue (list_all is_blank gap) × (s.offset ≡ at + length gap)
+    (gap : List ℕ) × (us : List ℕ) × (more : List ℕ) × (bytes ≡ gap ++ (us ++ more))
+    × IsTrue (list_all is_blank gap) × (s.offset ≡ at + length gap)
     × ((StandsFirst s.token us more × AreTokens (at + length gap + length us) more others)
     ⊎ ((others ≡ []) × (us ≡ [])
     × (((s.token ≡ token.End) × (more ≡ []))

@@ -3,7 +3,7 @@ use Rattle.std.specs.Prelude.{Bool}
 use Rattle.filter_expr.specs.declared.tokens.Token.{Token}
 use Rattle.filter_expr.specs.declared.tokens.TokenKind.{TokenKind}
 use Rattle.filter_expr.specs.declared.tokens.TokenKind.TheVariants as kind
-use Rattle.filter_expr.specs.Trees.{is_or, is_and, is_not, is_minus, is_open_paren, is_close_paren, is_end, is_unknown, is_out_of_range, is_leaf}
+use Rattle.filter_expr.specs.Signs.{is_or, is_and, is_not, is_minus, is_open_paren, is_close_paren, is_end, is_unknown, is_out_of_range, is_leaf}
 
 -- the token is of this kind
 abbrev pub is_of : TokenKind → Token → Bool
