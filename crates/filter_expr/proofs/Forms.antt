@@ -7,7 +7,7 @@ use Rattle.plain_filters.specs.declared.ProductSign.TheVariants as product
 use Rattle.plain_filters.specs.Filters.{FilterTree, FilterTrees, SumTrees, ProductTrees}
 use Rattle.filter_expr.specs.declared.tokens.Token.{Token}
 use Rattle.filter_expr.specs.declared.tokens.Token.TheVariants as token
-use Rattle.filter_expr.specs.Signs.{is_not, is_minus, is_sum_sign, is_product_sign, is_end, is_unknown}
+use Rattle.filter_expr.specs.Signs.{Kind, or_chain, and_chain, sum_chain, product_chain, is_not, is_minus, is_sum_sign, is_product_sign, is_end, is_unknown}
 use Rattle.filter_expr.specs.Reading.{sum_sign_of, product_sign_of}
 use Rattle.filter_expr.specs.Spelled.{Spelled, Parts, Sums, Products, or_form, and_form, not_form, compare_form, sum_form, product_form, negate_form, parens_form, name_form, text_form, number_form, out_of_range_form, true_form, false_form, null_form, parts_end, parts_then, sums_end, sums_then, products_end, products_then, sum_token, product_token}
 
@@ -18,6 +18,15 @@ head_same x y xs ys e = cc
 
 pub tail_same : {A : Type 0} (x y : A) (xs ys : List A) → x ∷ xs ≡ y ∷ ys → xs ≡ ys
 tail_same x y xs ys e = cc
+
+-- ---- strengths
+
+-- how strongly the signs of a chain bind its parts
+abbrev pub kind_strength : Kind → ℕ
+kind_strength or_chain = 0
+kind_strength and_chain = 1
+kind_strength sum_chain = 4
+kind_strength product_chain = 5
 
 -- ---- where less is asked for, more is open, or any number fits
 

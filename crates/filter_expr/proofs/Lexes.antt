@@ -12,7 +12,8 @@ use Rattle.filter_expr.specs.declared.tokens.Token.TheVariants as token
 use Rattle.filter_expr.specs.Signs.{is_unknown}
 use Rattle.farm_base.specs.Digits.{number_after}
 use Rattle.filter_expr.specs.Spelling.{is_blank, is_escaped, is_attribute_byte, digits_number}
-use Rattle.filter_expr.specs.Lexing.{Taken, longer, quoting_len, quoted_text, is_plain_byte, number_token, token_at, tokens_from}
+use Rattle.filter_expr.specs.inner.Runs.{is_plain_byte}
+use Rattle.filter_expr.specs.Lexing.{Taken, longer, quoting_len, quoted_text, number_token, token_at, tokens_from}
 use Rattle.filter_expr.proofs.Chains.{wrong}
 use Rattle.filter_expr.proofs.Lexemes.{token_good}
 

@@ -11,7 +11,8 @@ use Rattle.plain_filters.specs.Filters.{FilterTree, sum_tree, product_tree, sum_
 use Rattle.filter_expr.specs.Signs.{Kind, joins, sum_chain, product_chain}
 use Rattle.filter_expr.specs.inner.Parts.{tree_of_sum, tree_of_product, read_sum, read_product}
 use Rattle.filter_expr.specs.inner.Gives.{Gives}
-use Rattle.filter_expr.specs.Reading.{Part, Step, got, failed, Reader, starts, first_token, sums_behind, products_behind, next_sign, with_front, later, chain_or_part, chain_of}
+use Rattle.filter_expr.specs.inner.Kinds.{next_sign}
+use Rattle.filter_expr.specs.Reading.{Part, Step, got, failed, Reader, starts, first_token, sums_behind, products_behind, with_front, later, chain_or_part, chain_of}
 use Rattle.filter_expr.proofs.Forms.{sum_is, product_is}
 use Rattle.filter_expr.proofs.Chains.{wrong, Shortens, loop_fails, loop_ends, chain_fails, chain_reads}
 

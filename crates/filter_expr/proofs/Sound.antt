@@ -9,13 +9,13 @@ use Rattle.filter_expr.specs.declared.tokens.Token.TheVariants as token
 use Rattle.filter_expr.specs.declared.tokens.PlacedToken.{PlacedToken}
 use Rattle.filter_expr.specs.declared.faults.FilterFault.{FilterFault}
 use Rattle.filter_expr.specs.declared.faults.FilterFault.TheVariants.{Bad, NumberRange, TooDeep, NoMemory}
-use Rattle.filter_expr.specs.Signs.{Kind, or_chain, and_chain, sum_chain, product_chain, joins, kind_strength, is_leaf, is_out_of_range, is_open_paren, is_minus, is_not, is_compare, is_close_paren}
+use Rattle.filter_expr.specs.Signs.{Kind, or_chain, and_chain, sum_chain, product_chain, joins, is_leaf, is_out_of_range, is_open_paren, is_minus, is_not, is_compare, is_close_paren}
 use Rattle.filter_expr.specs.Spelled.{Spelled, Parts, Sums, Products, or_form, and_form, not_form, compare_form, sum_form, product_form, negate_form, parens_form, name_form, text_form, number_form, out_of_range_form, true_form, false_form, null_form, parts_end, parts_then, sums_end, sums_then, products_end, products_then}
 use Rattle.filter_expr.specs.Filters.{tokens}
 use Rattle.filter_expr.specs.Reading.{Part, Step, got, failed, Reader, then_read, starts, first_token, leaf_tree, sign_of, trees_behind, sums_behind, products_behind, joined, with_front, turns, later, chain_or_part, chain_after, chain_of, Inner, or_in, and_in, not_in, compare_in, sum_in, product_in, unary_in, atom_in, within_depth, compare_rest, got_not, got_negative, close_read, too_deep}
 use Rattle.filter_expr.proofs.Chains.{wrong}
 use Rattle.filter_expr.proofs.Spelled.{if_either}
-use Rattle.filter_expr.proofs.Forms.{looser}
+use Rattle.filter_expr.proofs.Forms.{kind_strength, looser}
 
 -- ---- what is said of the tokens that were used
 

@@ -6,8 +6,6 @@ use Rattle.plain_filters.specs.declared.CompareSign.TheVariants as «compare»
 use Rattle.filter_expr.specs.declared.tokens.Token.{Token}
 use Rattle.filter_expr.specs.declared.tokens.Token.TheVariants as token
 use Rattle.filter_expr.specs.declared.tokens.PlacedToken.{PlacedToken}
-use Rattle.filter_expr.specs.declared.lexer.Run.{Run}
-use Rattle.filter_expr.specs.declared.lexer.Run.TheVariants.{Digits, Word, Name, Plain}
 use Rattle.filter_expr.specs.Signs.{is_unknown}
 use Rattle.farm_base.specs.Digits.{is_digit}
 use Rattle.filter_expr.specs.Spelling.{is_blank, is_letter, is_word_byte, is_quote, is_escaped, is_attribute_byte, digits_number}
@@ -19,17 +17,6 @@ Taken = Token × ℕ
 -- what is taken where no token stands: the unknown token
 abbrev pub nothing : Taken
 nothing = (token.Unknown, 1)
-
--- every byte but the backslash
-abbrev pub is_plain_byte : ℕ → Bool
-is_plain_byte b = not (b == 92)
-
--- the bytes of which a run of each kind is made
-abbrev pub run_test : Run → ℕ → Bool
-run_test Digits = is_digit
-run_test Word = is_word_byte
-run_test Name = is_attribute_byte
-run_test Plain = is_plain_byte
 
 -- the token of a run of digits: a number, or one out of range from 2^63 on
 unfoldable pub number_token : List ℕ → Token

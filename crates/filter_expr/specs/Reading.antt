@@ -1,6 +1,6 @@
 -- A reader of token lists, one function for each row of the grammar's table: it says which filter the
 -- tokens begin with, or at which token they go wrong. What it reads is tied to the grammar by proof.
-use Rattle.std.specs.Prelude.{ℕ, zero, suc, Bool, true, false, if◌then◌else◌, List, [], ◌∷◌, ◌++◌, drop, length, Option, Some, None}
+use Rattle.std.specs.Prelude.{ℕ, zero, suc, Bool, true, false, if◌then◌else◌, List, [], ◌∷◌, ◌++◌, drop, length}
 use Rattle.plain_filters.specs.declared.CompareSign.{CompareSign}
 use Rattle.plain_filters.specs.declared.CompareSign.TheVariants as «compare»
 use Rattle.plain_filters.specs.declared.SumSign.{SumSign}
@@ -45,16 +45,6 @@ first_token (s ∷ ts) = s.token
 abbrev pub place : List PlacedToken → ℕ
 place [] = 0
 place (s ∷ ts) = s.offset
-
--- the next token, if it is a sign that joins a chain of this kind
-abbrev pub next_sign : Kind → List PlacedToken → Option Token
-next_sign k [] = None
-next_sign k (s ∷ ts) = if joins k s.token then Some s.token else None
-
--- the next token, if it is a sign that compares
-abbrev pub next_compare : List PlacedToken → Option Token
-next_compare [] = None
-next_compare (s ∷ ts) = if is_compare s.token then Some s.token else None
 
 -- the filter that one token is: a name, a text, a number or a truth value, and null for every other token
 abbrev pub leaf_tree : Token → FilterTree

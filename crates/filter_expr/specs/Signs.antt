@@ -1,5 +1,5 @@
 -- What the grammar asks of a token, and the four kinds of chain that signs join.
-use Rattle.std.specs.Prelude.{ℕ, Bool, true, false}
+use Rattle.std.specs.Prelude.{Bool, true, false}
 use Rattle.filter_expr.specs.declared.tokens.Token.{Token}
 use Rattle.filter_expr.specs.declared.tokens.Token.TheVariants as token
 
@@ -90,10 +90,3 @@ joins or_chain = is_or
 joins and_chain = is_and
 joins sum_chain = is_sum_sign
 joins product_chain = is_product_sign
-
--- how strongly the signs of a chain bind its parts
-abbrev pub kind_strength : Kind → ℕ
-kind_strength or_chain = 0
-kind_strength and_chain = 1
-kind_strength sum_chain = 4
-kind_strength product_chain = 5

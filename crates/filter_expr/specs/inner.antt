@@ -2,4 +2,5 @@ pub mod Connectives
 pub mod Gives
 pub mod Kinds
 pub mod Parts
+pub mod Runs
 pub mod Shown

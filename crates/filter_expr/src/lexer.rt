@@ -4,7 +4,8 @@ ghost use Rattle.std.specs.List.{prefix_len};
 ghost use Rattle.std.specs.Str.{IsCharBoundary};
 ghost use Rattle.farm_base.specs.Digits.{is_digit};
 ghost use Rattle.filter_expr.specs.Spelling.{is_blank, is_letter, is_quote, is_escaped};
-ghost use Rattle.filter_expr.specs.Lexing.{run_test, number_token, number_token_at, word_token, word_at, name_token_at, quoting_len, quoted_text, quoted_at, sign_at, less_at, single, token_at, tokens_from};
+ghost use Rattle.filter_expr.specs.inner.Runs.{run_test};
+ghost use Rattle.filter_expr.specs.Lexing.{number_token, number_token_at, word_token, word_at, name_token_at, quoting_len, quoted_text, quoted_at, sign_at, less_at, single, token_at, tokens_from};
 
 use crate::tokens::{PlacedToken, Token, TokenKind, TokenStream};
 use farm_base::{NoMemory, Text};

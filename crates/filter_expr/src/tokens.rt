@@ -4,8 +4,8 @@ ghost use Rattle.plain_filters.specs.Filters.{tree_of};
 ghost use Rattle.filter_expr.specs.declared.tokens.Token.TheVariants as token;
 ghost use Rattle.filter_expr.specs.Spelled.{sum_token, product_token};
 ghost use Rattle.filter_expr.specs.Signs.{sum_chain, product_chain, is_leaf};
-ghost use Rattle.filter_expr.specs.inner.Kinds.{is_of};
-ghost use Rattle.filter_expr.specs.Reading.{leaf_tree, starts, first_token, place, next_sign, next_compare};
+ghost use Rattle.filter_expr.specs.inner.Kinds.{is_of, next_sign, next_compare};
+ghost use Rattle.filter_expr.specs.Reading.{leaf_tree, starts, first_token, place};
 
 use farm_base::Text;
 use plain_filters::{CompareSign, Expr, ProductSign, SumSign};

@@ -4,9 +4,9 @@ use Rattle.std.proofs.lemmas.Result.{err_from_is_err_and}
 use Rattle.plain_filters.specs.Filters.{tree_of, sum_tree, product_tree, sums_of, products_of}
 use Rattle.filter_expr.specs.Spelled.{sum_token, product_token}
 use Rattle.filter_expr.specs.Signs.{sum_chain, product_chain}
-use Rattle.filter_expr.specs.Reading.{got, sum_in, product_in, unary_in, within_depth, starts, next_sign, later}
+use Rattle.filter_expr.specs.Reading.{got, sum_in, product_in, unary_in, within_depth, starts, later}
 use Rattle.filter_expr.specs.inner.Connectives.{connective_kind, chain_in}
-use Rattle.filter_expr.specs.inner.Kinds.{is_of}
+use Rattle.filter_expr.specs.inner.Kinds.{is_of, next_sign}
 use Rattle.filter_expr.specs.inner.Parts.{tree_of_sum, tree_of_product, read_sum, read_product}
 use Rattle.filter_expr.proofs.Nodes.{read_sum-made, read_product-made, tree-Sum, tree-Product}
 use Rattle.filter_expr.proofs.Chains.{wrong, loop_goes, later-stop, chain_reads}

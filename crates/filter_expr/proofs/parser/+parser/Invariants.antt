@@ -3,9 +3,9 @@ use Rattle.filter_expr.specs.declared.parser.Connective.{Connective}
 use Rattle.filter_expr.specs.declared.parser.Connective.TheVariants as connective
 use Rattle.filter_expr.specs.Signs.{sum_chain, product_chain}
 use Rattle.plain_filters.specs.Filters.{tree_of}
-use Rattle.filter_expr.specs.Reading.{with_front, later, within_depth, starts, next_sign, product_in, unary_in}
+use Rattle.filter_expr.specs.Reading.{with_front, later, within_depth, starts, product_in, unary_in}
 use Rattle.filter_expr.specs.inner.Connectives.{connective_kind, connective_token, chain_kind, chain_in, part_in}
-use Rattle.filter_expr.specs.inner.Kinds.{is_of}
+use Rattle.filter_expr.specs.inner.Kinds.{is_of, next_sign}
 use Rattle.filter_expr.specs.inner.Parts.{read_sum, read_product}
 use Rattle.filter_expr.proofs.Connectives.{resumed}
 use Rattle.filter_expr.proofs.parser.+parser.Given as goal
