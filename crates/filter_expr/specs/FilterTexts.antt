@@ -1,5 +1,6 @@
--- What a text says as a filter, as a function: the filter that its tokens are read as, or the first fault.
--- It is what the grammar gives the text: the filter where there is one, and else the first fault.
+-- What a text says as a filter, as a function: the filter that its tokens are read as, or the first
+-- fault. It is what the grammar gives the text: the filter where there is one, and else the first
+-- fault.
 use Rattle.std.specs.Prelude.{◌≡◌, ℕ, List, Result, Ok, Err}
 use Rattle.plain_filters.specs.declared.Expr.{Expr}
 use Rattle.plain_filters.specs.Filters.{FilterTree, tree_of}

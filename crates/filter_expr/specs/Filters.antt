@@ -18,13 +18,15 @@ tokens ts = map (λ s. s.token) ts
 abbrev pub AreFilter : Bool → ℕ → FilterTree → List Token → Type 0
 AreFilter wide d t ts = (us : List Token) × (ts ≡ us ++ token.End ∷ []) × Spelled wide 0 d t us
 
--- some filter begins with these tokens: its numbers are in range, unless `wide`, and so many things are open at once at most
+-- some filter begins with these tokens: its numbers are in range, unless `wide`, and so many things
+-- are open at once at most
 abbrev pub CanGoOn : Bool → ℕ → List Token → Type 0
 CanGoOn wide d us = (t : FilterTree) × (more : List Token) × AreFilter wide d t (us ++ more)
 
--- The fault that the last of these tokens is, which stands at this place. Bad: no filter begins so, whatever its numbers
--- and its depth. NumberRange: one does, but none whose numbers are in range. TooDeep: one whose numbers are in range does,
--- but none in which no more than 64 things are open at once.
+-- The fault that the last of these tokens is, which stands at this place. Bad: no filter begins so,
+-- whatever its numbers and its depth. NumberRange: one does, but none whose numbers are in range.
+-- TooDeep: one whose numbers are in range does, but none in which no more than 64 things are open
+-- at once.
 abbrev pub FaultsAt : FilterFault → List Token → ℕ → Type 0
 FaultsAt (Bad o) us at = (o ≡ at) × ((d : ℕ) → ¬ (CanGoOn true d us))
 FaultsAt (NumberRange o) us at =
@@ -39,7 +41,8 @@ FaultsAt NoMemory us at = ⊥
 abbrev pub FilterOf : List ℕ → FilterTree → Type 0
 FilterOf text t = (ts : List PlacedToken) × TokensOf text ts × AreFilter false 64 t (tokens ts)
 
--- the text begins as a filter within the limits does, and the token behind that beginning is this fault
+-- the text begins as a filter within the limits does, and the token behind that beginning is this
+-- fault
 abbrev pub FaultOf : List ℕ → FilterFault → Type 0
 FaultOf text f =
     (before : List PlacedToken) × (here : PlacedToken) × (after : List PlacedToken)

@@ -28,7 +28,8 @@ number_token ds =
 unfoldable pub number_token_at : List ℕ → Taken
 number_token_at bs = (number_token (take (prefix_len is_digit bs) bs), prefix_len is_digit bs)
 
--- the token of a word of letters, digits and `_`: one of the six that have a meaning, or the unknown one
+-- the token of a word of letters, digits and `_`: one of the six that have a meaning, or the
+-- unknown one
 unfoldable pub word_token : List ℕ → Token
 word_token w =
     if bytes_eq w (codes "true") then token.True
@@ -43,7 +44,8 @@ word_token w =
 unfoldable pub word_at : List ℕ → Taken
 word_at bs = (word_token (take (prefix_len is_word_byte bs) bs), prefix_len is_word_byte bs)
 
--- the name that follows an opening bracket, up to the closing one; no token where it is empty or is not closed
+-- the name that follows an opening bracket, up to the closing one; no token where it is empty or is
+-- not closed
 unfoldable pub name_token_at : List ℕ → Taken
 name_token_at bs =
     if prefix_len is_attribute_byte bs == 0 then nothing
@@ -59,8 +61,8 @@ abbrev pub longer : Option ℕ → Option ℕ
 longer None = None
 longer (Some n) = Some (suc n)
 
--- what follows an opening quote, where a backslash stood just before or not: how many bytes stand before
--- the closing quote; none where it is missing or an escape is unknown
+-- what follows an opening quote, where a backslash stood just before or not: how many bytes stand
+-- before the closing quote; none where it is missing or an escape is unknown
 unfoldable pub quoting_len : ℕ → Bool → List ℕ → Option ℕ
 quoting_len q escaped [] = None
 quoting_len q true (b ∷ bs) = if is_escaped b then longer (quoting_len q false bs) else None
@@ -74,7 +76,8 @@ quoted_text escaped [] = []
 quoted_text true (b ∷ bs) = b ∷ quoted_text false bs
 quoted_text false (b ∷ bs) = if b == 92 then quoted_text true bs else b ∷ quoted_text false bs
 
--- the text in quotes whose closing quote stands after so many bytes; no token where there is no count
+-- the text in quotes whose closing quote stands after so many bytes; no token where there is no
+-- count
 abbrev pub quoted_of : List ℕ → Option ℕ → Taken
 quoted_of bs None = nothing
 quoted_of bs (Some n) = (token.Quoted (quoted_text false (take n bs)), n + 2)
@@ -120,7 +123,8 @@ abbrev pub first_byte : List ℕ → ℕ
 first_byte [] = 0
 first_byte (b ∷ bs) = b
 
--- the token at the front of bytes, and how many bytes it takes; the unknown token where none stands there
+-- the token at the front of bytes, and how many bytes it takes; the unknown token where none stands
+-- there
 unfoldable pub token_at : List ℕ → Taken
 token_at [] = nothing
 token_at (b ∷ bs) =
@@ -130,8 +134,8 @@ token_at (b ∷ bs) =
     else (if is_quote b then quoted_at b bs
     else sign_at b (first_byte bs))))
 
--- the tokens of bytes that begin at this place, up to the end or to bytes at which no token stands; the second number counts
--- the bytes that still belong to the token before
+-- the tokens of bytes that begin at this place, up to the end or to bytes at which no token stands;
+-- the second number counts the bytes that still belong to the token before
 unfoldable pub tokens_from : ℕ → ℕ → List ℕ → List PlacedToken
 tokens_from at left [] = record { token = token.End; offset = at } ∷ []
 tokens_from at (suc left) (b ∷ bs) = tokens_from (suc at) left bs

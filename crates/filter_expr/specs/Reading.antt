@@ -1,5 +1,6 @@
--- A reader of token lists, one function for each row of the grammar's table: it says which filter the
--- tokens begin with, or at which token they go wrong. What it reads is tied to the grammar by proof.
+-- A reader of token lists, one function for each row of the grammar's table: it says which filter
+-- the tokens begin with, or at which token they go wrong. What it reads is tied to the grammar by
+-- proof.
 use Rattle.std.specs.Prelude.{ℕ, zero, suc, Bool, true, false, if◌then◌else◌, List, [], ◌∷◌, ◌++◌, drop, length}
 use Rattle.plain_filters.specs.declared.CompareSign.{CompareSign}
 use Rattle.plain_filters.specs.declared.CompareSign.TheVariants as «compare»
@@ -46,7 +47,8 @@ abbrev pub place : List PlacedToken → ℕ
 place [] = 0
 place (s ∷ ts) = s.offset
 
--- the filter that one token is: a name, a text, a number or a truth value, and null for every other token
+-- the filter that one token is: a name, a text, a number or a truth value, and null for every other
+-- token
 abbrev pub leaf_tree : Token → FilterTree
 leaf_tree (token.Name n) = name_tree n
 leaf_tree (token.Quoted t) = text_tree t
@@ -157,7 +159,8 @@ product_in i = chain_of product_chain (unary_in i)
 unfoldable pub sum_in : Inner → Reader FilterTree
 sum_in i = chain_of sum_chain (product_in i)
 
--- a first sum compared with the next one, where a sign that compares follows, and else the first sum alone
+-- a first sum compared with the next one, where a sign that compares follows, and else the first
+-- sum alone
 abbrev pub compare_rest : Inner → FilterTree → Reader FilterTree
 compare_rest i a us =
     if starts is_compare us

@@ -20,10 +20,11 @@ product_token product.Times = token.Times
 product_token product.Divide = token.Divide
 product_token product.Rest = token.Rest
 
--- These tokens spell this filter, at a place that asks for at least this strength and has room for so many `not`,
--- signs of negatives and parentheses, one within another. Each form has its strength: an `or` 0, an `and` 1, a `not` 2,
--- a comparison 3, a sum 4, a product 5, a negative 6; what is one token or stands in parentheses fits at every place.
--- Where `wide`, a number that is out of range stands for any number.
+-- These tokens spell this filter, at a place that asks for at least this strength and has room for
+-- so many `not`, signs of negatives and parentheses, one within another. Each form has its
+-- strength: an `or` 0, an `and` 1, a `not` 2, a comparison 3, a sum 4, a product 5, a negative 6;
+-- what is one token or stands in parentheses fits at every place. Where `wide`, a number that is
+-- out of range stands for any number.
 mutual
   pub data Spelled (wide : Bool) : ℕ → ℕ → FilterTree → List Token → Type 0 where
     or_form : {n d : ℕ} {s t : FilterTree} {ts : FilterTrees} {us vs : List Token} → n ≤ 0

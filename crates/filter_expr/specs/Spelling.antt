@@ -44,8 +44,8 @@ IsDigits us = (us ≢ []) × IsTrue (list_all is_digit us)
 abbrev pub digits_number : List ℕ → ℕ
 digits_number = number_after 0
 
--- how a text is written between quotes of this kind: a backslash stands before each quote or backslash
--- that is escaped, and a quote of the other kind may stand by itself
+-- how a text is written between quotes of this kind: a backslash stands before each quote or
+-- backslash that is escaped, and a quote of the other kind may stand by itself
 abbrev pub IsQuoting : ℕ → List ℕ → List ℕ → Type 0
 IsQuoting q [] us = us ≡ []
 IsQuoting q (c ∷ cs) us =
@@ -97,8 +97,8 @@ abbrev pub begins_with : (ℕ → Bool) → List ℕ → Bool
 begins_with test [] = false
 begins_with test (b ∷ bs) = test b
 
--- with the byte b after it the spelling would be a longer one: a digit after a number, a letter, digit or
--- `_` after a word, and after a sign a byte that makes it another sign
+-- with the byte b after it the spelling would be a longer one: a digit after a number, a letter,
+-- digit or `_` after a word, and after a sign a byte that makes it another sign
 abbrev pub lengthens : List ℕ → ℕ → Bool
 lengthens us b =
     if begins_with is_digit us then is_digit b
@@ -116,8 +116,8 @@ StandsFirst t us more = SpellsToken t us × EndsBefore us more
 
 -- ---- the tokens of a text
 
--- the bytes, which begin at this place of the text, are these tokens with blanks before, between and behind
--- them, up to the end or to bytes at which no token stands
+-- the bytes, which begin at this place of the text, are these tokens with blanks before, between
+-- and behind them, up to the end or to bytes at which no token stands
 abbrev pub AreTokens : ℕ → List ℕ → List PlacedToken → Type 0
 AreTokens at bytes [] = ⊥
 AreTokens at bytes (s ∷ others) =

@@ -46,7 +46,8 @@ pub fn chain(
     depth_left: u32,
     connective: Connective,
 ) -> Result<Expr, FilterFault>
-    ensures read { Gives tree_of result stream.new (chain_in connective (within_depth depth_left) stream.old) }
+    ensures read { Gives tree_of result stream.new
+        (chain_in connective (within_depth depth_left) stream.old) }
     ensures left { length stream.new ≤ length stream.old }
 {
     let first = chain_part(alloc, stream, depth_left, connective)?;
@@ -70,7 +71,8 @@ fn chain_part(
     depth_left: u32,
     connective: Connective,
 ) -> Result<Expr, FilterFault>
-    ensures read { Gives tree_of result stream.new (part_in connective (within_depth depth_left) stream.old) }
+    ensures read { Gives tree_of result stream.new
+        (part_in connective (within_depth depth_left) stream.old) }
     ensures left { length stream.new ≤ length stream.old }
 {
     match connective {
@@ -100,7 +102,8 @@ fn not_part(alloc: Global, stream: &mut TokenStream, depth_left: u32) -> Result<
 #[cycle(parser)]
 #[tactic(auto, using(crate::proofs::Nodes::trees), unfolding(crate::specs::Reading::compare_in))]
 fn comparison(alloc: Global, stream: &mut TokenStream, depth_left: u32) -> Result<Expr, FilterFault>
-    ensures read { Gives tree_of result stream.new (compare_in (within_depth depth_left) stream.old) }
+    ensures read { Gives tree_of result stream.new
+        (compare_in (within_depth depth_left) stream.old) }
     ensures left { length stream.new ≤ length stream.old }
 {
     let a = sum(alloc, stream, depth_left)?;
@@ -136,7 +139,8 @@ fn sum(alloc: Global, stream: &mut TokenStream, depth_left: u32) -> Result<Expr,
 #[cycle(parser)]
 #[tactic(auto, unfolding(crate::specs::Reading::product_in))]
 fn product(alloc: Global, stream: &mut TokenStream, depth_left: u32) -> Result<Expr, FilterFault>
-    ensures read { Gives tree_of result stream.new (product_in (within_depth depth_left) stream.old) }
+    ensures read { Gives tree_of result stream.new
+        (product_in (within_depth depth_left) stream.old) }
     ensures left { length stream.new ≤ length stream.old }
 {
     let first = unary(alloc, stream, depth_left)?;

@@ -1,4 +1,5 @@
--- A filter as a text again: its tokens with parentheses where they are needed, and a space between two tokens.
+-- A filter as a text again: its tokens with parentheses where they are needed, and a space between
+-- two tokens.
 use Rattle.std.specs.Prelude.{◌≡◌, ℕ, Bool, true, false, ◌==◌, ◌||◌, nat_lt, if◌then◌else◌, List, [], ◌∷◌, ◌++◌, codes, Result, Ok}
 use Rattle.std.specs.Fmt.{signed_decimal}
 use Rattle.plain_filters.specs.declared.CompareSign.TheVariants as «compare»
@@ -43,8 +44,8 @@ spelling token.Close = codes ")"
 spelling token.End = []
 spelling token.Unknown = []
 
--- how strongly the outermost form of a filter binds: an `or` 0, an `and` 1, a `not` 2, a comparison 3, a sum 4,
--- a product 5, a negative 6, and 7 for what stands by itself
+-- how strongly the outermost form of a filter binds: an `or` 0, an `and` 1, a `not` 2, a comparison
+-- 3, a sum 4, a product 5, a negative 6, and 7 for what stands by itself
 abbrev pub strength : FilterTree → ℕ
 strength (or_tree ts) = 0
 strength (and_tree ts) = 1
@@ -81,7 +82,8 @@ abbrev mutual
   tokens_in (truth_tree b) = truth_token b ∷ []
   tokens_in null_tree = token.Null ∷ []
 
-  -- parts with this sign between each two; no part is written as an empty word, which is that of `End`
+  -- parts with this sign between each two; no part is written as an empty word, which is that of
+  -- `End`
   pub list_tokens : Token → ℕ → FilterTrees → List Token
   list_tokens s l no_trees = token.End ∷ []
   list_tokens s l (tree_then t ts) = in_place l t (tokens_in t) ++ later_tokens s l ts
@@ -122,7 +124,8 @@ filter_text t = put_tokens [] (tokens_in t)
 abbrev pub ReadsAgain : Type 0
 ReadsAgain = (text : List ℕ) (t : FilterTree) → FilterOf text t → FilterOf (filter_text t) t
 
--- a filter that may be answered for some text is answered again for what is written of it, but for want of memory
+-- a filter that may be answered for some text is answered again for what is written of it, but for
+-- want of memory
 abbrev pub AnswersAgain : Type 0
 AnswersAgain =
     (text : List ℕ) (e : Expr) → MayAnswer text (Ok e)

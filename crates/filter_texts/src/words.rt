@@ -30,7 +30,8 @@ pub fn put_word(out: &mut String, word: &str) -> Result<(), NoMemory>
 
 /// An attribute's name in brackets.
 pub fn put_name(out: &mut String, name: &str) -> Result<(), NoMemory>
-    ensures { OnOk result (string_bytes out.new ≡ put_behind (string_bytes out.old) (spelling (token.Name name.now))) }
+    ensures { OnOk result (string_bytes out.new
+        ≡ put_behind (string_bytes out.old) (spelling (token.Name name.now))) }
 {
     put_space(out)?;
     out.push_str("[")?;
@@ -41,7 +42,8 @@ pub fn put_name(out: &mut String, name: &str) -> Result<(), NoMemory>
 
 /// A text between single quotes.
 pub fn put_quoted(out: &mut String, text: &str) -> Result<(), NoMemory>
-    ensures { OnOk result (string_bytes out.new ≡ put_behind (string_bytes out.old) (spelling (token.Quoted text.now))) }
+    ensures { OnOk result (string_bytes out.new
+        ≡ put_behind (string_bytes out.old) (spelling (token.Quoted text.now))) }
 {
     put_space(out)?;
     out.push_str("'")?;
@@ -72,7 +74,8 @@ fn put_char(out: &mut String, c: char) -> Result<(), NoMemory>
 
 /// A number in decimal digits.
 pub fn put_number(out: &mut String, n: i64) -> Result<(), NoMemory>
-    ensures { OnOk result (string_bytes out.new ≡ put_behind (string_bytes out.old) (spelling (token.Number n))) }
+    ensures { OnOk result (string_bytes out.new
+        ≡ put_behind (string_bytes out.old) (spelling (token.Number n))) }
 {
     put_space(out)?;
     write!(out, "{n}")?;

@@ -1,5 +1,5 @@
--- The later parts of sums and products one by one, and the values of chains from the left. Words of the functions that
--- read, write and compute them; the meaning of a filter is that of its tree.
+-- The later parts of sums and products one by one, and the values of chains from the left. Words of
+-- the functions that read, write and compute them; the meaning of a filter is that of its tree.
 use Rattle.std.specs.Prelude.{List, [], ◌∷◌}
 use Rattle.farm_base.specs.declared.Value.{Value}
 use Rattle.farm_base.specs.declared.Attr.{Attr}
