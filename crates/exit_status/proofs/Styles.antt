@@ -9,12 +9,10 @@ use Rattle.plain_shapes.specs.declared.shapes.LineCap.TheVariants as cap
 use Rattle.plain_drawing.specs.declared.style.FilterMode.TheVariants as mode
 use Rattle.plain_drawing.specs.Styles.{Style, LayerRef, RasterRef, style_has, layer_has, raster_has, is_text_to, is_width}
 use Rattle.filter_expr.specs.declared.faults.FilterFault.TheVariants.{Bad, NumberRange, TooDeep, NoMemory}
-use Rattle.filter_expr.specs.Trees.{Tree}
 use Rattle.filter_expr.specs.Lexing.{tokens_from}
 use Rattle.filter_expr.specs.Reading.{Step, got, failed, whole_filter}
 use Rattle.filter_expr.specs.FilterTexts.{filter_of, verdict}
-use Rattle.filter_expr.proofs.Final.{IsAnswer}
-use Rattle.filter_expr.proofs.Only.{lexed_answer}
+use Rattle.filter_expr.proofs.Texts.{IsSaid, said}
 use Rattle.paint_texts.specs.Colours.{rgb}
 use Rattle.reading.specs.Json.{json_of}
 use Rattle.reading.specs.Values.{text, list}
@@ -44,14 +42,14 @@ Told r = OnFault HasText r
 
 filter_told : (text : List ℕ) (at : At) → Told (result_map_both (λ t. Some t) (λ f. fault.Filter at f) (filter_of text))
 unfolding filter_of
-filter_told text at = by (whole_filter (tokens_from 0 0 text)) (lexed_answer text)
+filter_told text at = by (whole_filter (tokens_from 0 0 text)) (said text)
   where
-    by : (r : Step Tree) → IsAnswer (tokens_from 0 0 text) r → Told (result_map_both (λ t. Some t) (λ f. fault.Filter at f) (verdict r))
+    by : (r : Step _) → IsSaid text r → Told (result_map_both (λ t. Some t) (λ f. fault.Filter at f) (verdict r))
     by (got d ts) h = tt
     by (failed (Bad o) ts) h = refl
     by (failed (NumberRange o) ts) h = refl
     by (failed (TooDeep o) ts) h = refl
-    by (failed NoMemory ts) h = absurd h.place
+    by (failed NoMemory ts) h = absurd h.5
 
 -- ---- kinds of values
 

@@ -1,214 +1,156 @@
--- The reading of a text's tokens is its filter or its first fault, and each text has one answer at most.
-use Rattle.std.proofs.Common.{◌≡◌, ℕ, ◌+◌, ◌≤◌, Bool, true, false, ◌||◌, if◌then◌else◌, IsTrue, List, [], ◌∷◌, ◌++◌, length, refl, sym, ap, ◌∙◌, subst, arith, append_assoc}
-use Rattle.std.proofs.lemmas.List.{append-nil, append_cancel_right}
+-- The reading of a text's tokens is what the grammar says of them: the filter, or the first fault.
+use Rattle.std.proofs.Common.{◌≡◌, ℕ, ◌+◌, ◌≤◌, Bool, true, false, ◌||◌, if◌then◌else◌, List, [], ◌∷◌, ◌++◌, map, refl, sym, ap, ◌∙◌, subst, arith, append_assoc}
+use Rattle.std.proofs.lemmas.List.{append-nil, append_cancel_right, map-append}
+use Rattle.plain_filters.specs.Filters.{FilterTree}
 use Rattle.filter_expr.specs.declared.tokens.Token.{Token}
 use Rattle.filter_expr.specs.declared.tokens.Token.TheVariants as token
 use Rattle.filter_expr.specs.declared.tokens.PlacedToken.{PlacedToken}
 use Rattle.filter_expr.specs.declared.faults.FilterFault.{FilterFault}
 use Rattle.filter_expr.specs.declared.faults.FilterFault.TheVariants.{Bad, NumberRange, TooDeep, NoMemory}
-use Rattle.filter_expr.specs.Trees.{Kind, sign_token, Tree, Terms, leaf, negation, negative, comparison, chain, parens, no_terms, term, joins, is_leaf, is_out_of_range, is_end, is_unknown, bare, nesting, InRange, or_chain, and_chain, sum_chain, product_chain}
-use Rattle.filter_expr.specs.Grammar.{kind_strength}
-use Rattle.filter_expr.specs.inner.TreeGrammar.{IsSpelled, AreSpelled, Stands, StandTerms}
-use Rattle.filter_expr.specs.inner.ByTrees.{IsText, IsFilter, IsFault, Begins, GoesOn, StandsAt, Passes, HasCause}
-use Rattle.filter_expr.proofs.Places.{IsAt}
-use Rattle.filter_expr.specs.Reading.{Step, got, failed, then_read, or_in, within_depth, end_read, whole_filter}
-use Rattle.filter_expr.proofs.Chains.{Leaves}
-use Rattle.filter_expr.proofs.Levels.{whole_shortens}
-use Rattle.filter_expr.proofs.Complete.{Fine, complete}
-use Rattle.filter_expr.proofs.Local.{At, rest_of, with_rest, whole_local}
-use Rattle.filter_expr.proofs.Sound.{Outcome, Whole, Begun, Wide, Cause, within_sound, sound_or}
-use Rattle.filter_expr.proofs.Rows.{end_stops, or_signs, and_signs, sum_signs, product_signs, wrong}
+use Rattle.filter_expr.specs.Signs.{is_end, is_unknown}
+use Rattle.filter_expr.specs.Spelled.{Spelled}
+use Rattle.filter_expr.specs.Filters.{tokens, AreFilter, CanGoOn, FaultsAt, OneTree}
+use Rattle.filter_expr.specs.Reading.{Step, got, failed, then_read, starts, or_in, within_depth, end_read, whole_filter}
+use Rattle.filter_expr.proofs.Chains.{wrong, rest_of}
+use Rattle.filter_expr.proofs.Local.{At, IsAt, InPlace, with_rest, whole_local}
+use Rattle.filter_expr.proofs.Forms.{is_stop, Goes, begun, begun_goes}
+use Rattle.filter_expr.proofs.Complete.{Fine, Is, then_fine, fine_if, starts_is, complete}
+use Rattle.filter_expr.proofs.Sound.{Begins, Cause, Failure, Outcome, within_sound, sound_or}
+use Rattle.filter_expr.proofs.Tokenised.{Stopped}
 
--- ---- no tree has the end of the text, or bytes that are no token
+pub tokens_both : (us vs : List PlacedToken) → tokens (us ++ vs) ≡ tokens us ++ tokens vs
+tokens_both us vs = map-append (λ (s : PlacedToken). s.token) us vs
 
-abbrev pub is_stop : Token → Bool
-is_stop t = is_end t || is_unknown t
+-- tokens put anywhere
+abbrev placed : Token → PlacedToken
+placed t = record { token = t; offset = 0 }
 
--- none of the tokens ends the list
-abbrev pub NoStop : List PlacedToken → Type 0
-NoStop [] = Unit {0}
-NoStop (s ∷ us) = (is_stop s.token ≡ false) × NoStop us
+placed_tokens : (us : List Token) → tokens (map placed us) ≡ us
+placed_tokens [] = refl
+placed_tokens (u ∷ us) = ap (λ l. u ∷ l) (placed_tokens us)
 
-no_stop_both : (us vs : List PlacedToken) → NoStop us → NoStop vs → NoStop (us ++ vs)
-no_stop_both [] vs h g = g
-no_stop_both (s ∷ us) vs h g = (h.0, no_stop_both us vs h.1 g)
+-- ---- tokens that are spelled
 
-no_stop_first : (us vs : List PlacedToken) → NoStop (us ++ vs) → NoStop us
-no_stop_first [] vs h = tt
-no_stop_first (s ∷ us) vs h = (h.0, no_stop_first us vs h.1)
+-- tokens spell one filter at most
+pub one_tree : OneTree
+one_tree s t us c d p q =
+    let e : tokens (map placed us) ≡ us ++ [] = placed_tokens us ∙ sym (append-nil us) in
+    by (or_in (within_depth (c + d)) (map placed us)) (complete p (c + d) 0 [] (map placed us) (omega arith) (omega arith) e tt) (complete q (c + d) 0 [] (map placed us) (omega arith) (omega arith) e tt)
+  where
+    by : (r : Step FilterTree) → Fine (Is s) false (c + d) c [] r → Fine (Is t) false (c + d) d [] r → s ≡ t
+    by (got x ts) a b = sym a.0 ∙ b.0
+    by (failed (Bad o) ts) a b = absurd a
+    by (failed (NumberRange o) ts) a b = absurd (wrong a)
+    by (failed (TooDeep o) ts) a b = absurd (omega (arith, a))
+    by (failed NoMemory ts) a b = absurd a
 
-leaf_no_stop : (t : Token) → IsTrue (is_leaf t || is_out_of_range t) → is_stop t ≡ false
-leaf_no_stop token.End h = absurd (wrong h)
-leaf_no_stop token.Unknown h = absurd (wrong h)
-leaf_no_stop _ h = refl
+pub whole_read : {w : Bool} {d : ℕ} {t : FilterTree} {us : List Token} → Spelled w 0 d t us → (ts : List PlacedToken) → tokens ts ≡ us ++ token.End ∷ [] → Fine (Is t) w 64 d (token.End ∷ []) (whole_filter ts)
+unfolding whole_filter
+whole_read {w = w} {d = d} {t = t} p ts e =
+    then_fine (Is t) (Is t) w 64 64 d d (token.End ∷ []) (token.End ∷ []) (or_in (within_depth 64) ts) end_read (λ x. x)
+    (complete p 64 0 (token.End ∷ []) ts (omega arith) (omega arith) e (omega arith))
+    (λ x q us z. fine_if (Is t) w 64 d (token.End ∷ []) (starts is_end us) true _ _ (starts_is is_end us token.End [] z) (q, z))
 
-sign_no_stop : (k : Kind) (t : Token) → joins k t ≡ true → is_stop t ≡ false
-sign_no_stop or_chain t e = or_signs (λ t. is_stop t ≡ false) refl t e
-sign_no_stop and_chain t e = and_signs (λ t. is_stop t ≡ false) refl t e
-sign_no_stop sum_chain t e = sum_signs (λ t. is_stop t ≡ false) refl refl t e
-sign_no_stop product_chain t e = product_signs (λ t. is_stop t ≡ false) refl refl refl t e
+-- ---- the last of a text's tokens
 
-mutual
-  tree_no_stop : (e : Tree) (l : ℕ) (us : List PlacedToken) → Stands l e → IsSpelled e us → NoStop us
-  tree_no_stop (leaf t) l us s p = subst NoStop (sym p.1) (ap is_stop p.2 ∙ leaf_no_stop t s, tt)
-  tree_no_stop (negation e) l us s p = subst NoStop (sym p.2) (ap is_stop p.3, tree_no_stop e 2 p.1 s.1 p.4)
-  tree_no_stop (negative e) l us s p = subst NoStop (sym p.2) (ap is_stop p.3, tree_no_stop e 6 p.1 s.1 p.4)
-  tree_no_stop (comparison a c b) l us s p =
-      subst NoStop (sym p.3) (no_stop_both p.0 (p.1 ∷ p.2) (tree_no_stop a 4 p.0 s.1 p.5) (ap is_stop p.4, tree_no_stop b 4 p.2 s.2 p.6))
-  tree_no_stop (chain k e ts) l us s p =
-      subst NoStop (sym p.2) (no_stop_both p.0 p.1 (tree_no_stop e (kind_strength k + 1) p.0 s.1 p.3) (terms_no_stop ts k p.1 s.3 p.4))
-  tree_no_stop (parens e) l us s p =
-      subst NoStop (sym p.3) (ap is_stop p.4, no_stop_both p.1 (p.2 ∷ []) (tree_no_stop e 0 p.1 s p.6) (ap is_stop p.5, tt))
-
-  terms_no_stop : (ts : Terms) (k : Kind) (us : List PlacedToken) → StandTerms k ts → AreSpelled ts us → NoStop us
-  terms_no_stop no_terms k us s p = subst NoStop (sym p) tt
-  terms_no_stop (term t e ts) k us s p =
-      subst NoStop (sym p.3) (ap is_stop p.4 ∙ sign_no_stop k (sign_token t) s.0, no_stop_both p.1 p.2 (tree_no_stop e (kind_strength k + 1) p.1 s.1 p.5) (terms_no_stop ts k p.2 s.2 p.6))
-
--- tokens of a text: the last one ends them, and no other does
-abbrev pub Stopped : List PlacedToken → Type 0
-Stopped [] = ⊥
-Stopped (s ∷ []) = is_stop s.token ≡ true
-Stopped (s ∷ t ∷ ts) = (is_stop s.token ≡ false) × Stopped (t ∷ ts)
-
-stopped_not_all : (ts : List PlacedToken) → Stopped ts → NoStop ts → ⊥
+stopped_not_all : (us : List Token) → Stopped us → Goes us → ⊥
 stopped_not_all [] h g = h
-stopped_not_all (s ∷ []) h g = wrong (sym g.0 ∙ h)
-stopped_not_all (s ∷ t ∷ ts) h g = stopped_not_all (t ∷ ts) h.1 g.1
+stopped_not_all (u ∷ []) h g = wrong (sym g.0 ∙ h)
+stopped_not_all (u ∷ v ∷ us) h g = stopped_not_all (v ∷ us) h.1 g.1
 
 -- behind the end nothing stands
-stopped_last : (us : List PlacedToken) (z : PlacedToken) (more : List PlacedToken) → Stopped (us ++ z ∷ more) → is_stop z.token ≡ true → more ≡ []
+stopped_last : (us : List Token) (z : Token) (more : List Token) → Stopped (us ++ z ∷ more) → is_stop z ≡ true → more ≡ []
 stopped_last [] z [] h e = refl
 stopped_last [] z (t ∷ ts) h e = absurd (wrong (sym h.0 ∙ e))
-stopped_last (s ∷ []) z more h e = stopped_last [] z more h.1 e
-stopped_last (s ∷ t ∷ us) z more h e = stopped_last (t ∷ us) z more h.1 e
+stopped_last (u ∷ []) z more h e = stopped_last [] z more h.1 e
+stopped_last (u ∷ v ∷ us) z more h e = stopped_last (v ∷ us) z more h.1 e
 
 end_is : (t : Token) → is_end t ≡ true → t ≡ token.End
 end_is token.End e = refl
 end_is _ e = absurd (wrong e)
 
--- ---- the reading of a text that is a filter
-
--- the whole reading: the tree, or a limit that it passes
-abbrev pub Reads : Tree → PlacedToken → Step Tree → Type 0
-Reads e z (got d rest) = (d ≡ bare e) × (rest ≡ z ∷ [])
-Reads e z (failed f rest) = Passes e f
-
-pub reads_whole : (e : Tree) (us : List PlacedToken) (z : PlacedToken) → Stands 0 e → z.token ≡ token.End → IsSpelled e us → Reads e z (whole_filter (us ++ z ∷ []))
-unfolding whole_filter
-reads_whole e us z s q p = by (or_in (within_depth 64) (us ++ z ∷ [])) (complete e 64 0 us (z ∷ []) (omega arith) s p (end_stops z [] q))
-  where
-    at_end : (d : Tree) → d ≡ bare e → (rest : List PlacedToken) → rest ≡ z ∷ [] → Reads e z (end_read d rest)
-    at_end d h rest g =
-        subst (λ ts. Reads e z (end_read d ts)) (sym g)
-        (subst (λ b. Reads e z (if b then got d (z ∷ []) else failed (Bad z.offset) (z ∷ []))) (sym (ap is_end q)) (h, refl))
-
-    by : (r : Step Tree) → Fine 64 e (z ∷ []) r → Reads e z (then_read r end_read)
-    by (got d rest) h = at_end d h.0 rest h.1
-    by (failed (Bad o) rest) h = h
-    by (failed (NumberRange o) rest) h = h
-    by (failed (TooDeep o) rest) h = h
-    by (failed NoMemory rest) h = h
-
--- a reading that fails can only be of a tree that passes the fault
-reads_failed : (e : Tree) (z : PlacedToken) (f : FilterFault) (rest : List PlacedToken) (r : Step Tree) → r ≡ failed f rest → Reads e z r → Passes e f
-reads_failed e z f rest (got d us) q h = absurd (cc)
-reads_failed e z f rest (failed g us) q h = let same : g ≡ f = cc in subst (Passes e) same h
-
--- no tree goes on with the tokens at which the reading stops, but for those that pass the fault
-none_failed : (ts : List PlacedToken) (f : FilterFault) (rest : List PlacedToken) → whole_filter ts ≡ failed f rest → (used : List PlacedToken) (here : PlacedToken) (after : List PlacedToken) →
-    ts ≡ used ++ rest → rest ≡ here ∷ after → At whole_filter ts (whole_filter ts) → (e : Tree) (b : List PlacedToken) → Stands 0 e → IsText e (used ++ here ∷ b) → Passes e f
-none_failed ts f rest q used here after split next loc e b s p =
-    reads_failed e p.1 f (here ∷ b) (whole_filter (p.0 ++ p.1 ∷ []))
-    (ap whole_filter (sym p.2) ∙ ap (λ l. whole_filter (l ++ here ∷ b)) (sym same) ∙ loc.again here after b (ap rest_of q ∙ next) ∙ ap (with_rest (here ∷ b)) q)
-    (reads_whole e p.0 p.1 s p.3 p.4)
-  where
-    same : loc.used ≡ used
-    same = append_cancel_right loc.used used rest (sym (loc.split ∙ ap (λ r. loc.used ++ rest_of r) q) ∙ split)
+goes_first : (us vs : List Token) → Goes (us ++ vs) → Goes us
+goes_first [] vs h = tt
+goes_first (u ∷ us) vs h = (h.0, goes_first us vs h.1)
 
 -- ---- the answer for the tokens of a text
 
-abbrev pub IsAnswer : List PlacedToken → Step Tree → Type 0
-IsAnswer ts (got d rest) = IsFilter ts d
-IsAnswer ts (failed f rest) = IsFault ts f
+-- what stands before the fault begins a filter within the limits, and the next token is this fault
+abbrev pub FaultIn : List PlacedToken → FilterFault → Type 0
+FaultIn ts f =
+    (before : List PlacedToken) × (here : PlacedToken) × (after : List PlacedToken) × (ts ≡ before ++ here ∷ after)
+    × CanGoOn false 64 (tokens before) × FaultsAt f (tokens before ++ here.token ∷ []) here.offset
 
-goes_on : (l : ℕ) (us : List PlacedToken) (here : PlacedToken) → Wide 0 us here → GoesOn (us ++ here ∷ [])
-goes_on l us here w = record { more = w.more; tree = w.tree; stands = w.stands; spelled = subst (IsSpelled w.tree) (sym (append_assoc us (here ∷ []) w.more)) w.spelled }
+abbrev pub IsAnswer : List PlacedToken → Step FilterTree → Type 0
+IsAnswer ts (got t rest) = AreFilter false 64 t (tokens ts)
+IsAnswer ts (failed f rest) = FaultIn ts f
 
-has_cause : (f : FilterFault) (us : List PlacedToken) (here : PlacedToken) (after : List PlacedToken) → Cause 0 f us (here ∷ after) → HasCause f us here
-has_cause (Bad o) us here after c = tt
-has_cause (NumberRange o) us here after c = (c.0, goes_on 0 us here c.1)
-has_cause (TooDeep o) us here after c = (c.0, goes_on 0 us here c.1)
-has_cause NoMemory us here after c = c
+goes_on : (w : Bool) (d : ℕ) (us : List Token) → Begins 0 w d us → CanGoOn w d us
+goes_on w d us b = (b.0, b.1 ++ token.End ∷ [], (us ++ b.1, sym (append_assoc us b.1 (token.End ∷ [])), b.2))
 
-stands_at : (f : FilterFault) (here : PlacedToken) (after : List PlacedToken) → IsAt f (here ∷ after) → StandsAt f here
-stands_at (Bad o) here after h = h
-stands_at (NumberRange o) here after h = h
-stands_at (TooDeep o) here after h = h
-stands_at NoMemory here after h = h
-
-at_of : (n : ℕ) (f : FilterFault) (rest : List PlacedToken) (r : Step Tree) → r ≡ failed f rest → Leaves n r → IsAt f rest
-at_of n f rest (got d us) q l = absurd (cc)
-at_of n f rest (failed g us) q l =
-    let one : g ≡ f = cc in
-    let two : us ≡ rest = cc in
-    subst (λ h. IsAt h rest) one (subst (IsAt g) two l.1)
-
-begins_of : (us : List PlacedToken) → Begun 64 0 us → Begins us
-begins_of us b = record { more = b.more; tree = b.tree; stands = b.stands; spelled = b.spelled; range = b.range; deep = b.deep }
+-- a filter that goes on with the token at which the reading stops passes the limit of the fault
+refused : (ts : List PlacedToken) (f : FilterFault) (here : PlacedToken) (after : List PlacedToken) → whole_filter ts ≡ failed f (here ∷ after) → (loc : At whole_filter ts (whole_filter ts)) →
+    (w : Bool) (d : ℕ) (c : CanGoOn w d (tokens loc.used ++ here.token ∷ [])) → Fine (Is c.0) w 64 d (token.End ∷ []) (failed f (here ∷ map placed c.1))
+refused ts f here after q loc w d c =
+    subst (Fine (Is c.0) w 64 d (token.End ∷ [])) (loc.again here after (map placed c.1) (ap rest_of q) ∙ ap (with_rest (here ∷ map placed c.1)) q)
+    (whole_read c.2.2 (loc.used ++ here ∷ map placed c.1)
+    (tokens_both loc.used (here ∷ map placed c.1) ∙ ap (λ l. tokens loc.used ++ here.token ∷ l) (placed_tokens c.1) ∙ sym (append_assoc (tokens loc.used) (here.token ∷ []) c.1) ∙ c.2.1))
 
 -- a fault, by what stands before it and the tokens from it on
-fault_of : (ts : List PlacedToken) → Stopped ts → (f : FilterFault) (rest us : List PlacedToken) → whole_filter ts ≡ failed f rest → ts ≡ us ++ rest → Begun 64 0 us → Cause 0 f us rest → IsFault ts f
-fault_of ts stop f [] us q split b c =
-    absurd (stopped_not_all ts stop (subst NoStop (sym (split ∙ append-nil us)) (no_stop_first us b.more (tree_no_stop b.tree 0 (us ++ b.more) b.stands b.spelled))))
-fault_of ts stop f (here ∷ after) us q split b c = record {
-  before = us;
-  here = here;
-  after = after;
-  split = split;
-  place = stands_at f here after (at_of (length ts) f (here ∷ after) (whole_filter ts) q (whole_shortens.leaves ts));
-  begins = begins_of us b;
-  cause = has_cause f us here after c;
-  none = none_failed ts f (here ∷ after) q us here after split refl (whole_local.here ts);
-}
-
-begun_of : (d : Tree) (us : List PlacedToken) → Whole 64 0 d us → Begun 64 0 us
-begun_of d us w = record { more = []; tree = w.tree; stands = w.stands; spelled = subst (IsSpelled w.tree) (sym (append-nil us)) w.spelled; range = w.range; deep = w.deep }
-
-pub right : (ts : List PlacedToken) → Stopped ts → IsAnswer ts (whole_filter ts)
-unfolding whole_filter
-right ts stop = subst (IsAnswer ts) refl (by (or_in (within_depth 64) ts) refl (sound_or 64 (within_depth 64) (within_sound 64) ts))
+fault_in : (ts : List PlacedToken) → Stopped (tokens ts) → (f : FilterFault) (rest : List PlacedToken) → whole_filter ts ≡ failed f rest → Failure (Begins 0) 64 ts f rest → FaultIn ts f
+fault_in ts stop f [] q o = absurd (stopped_not_all (tokens ts) stop
+    (subst Goes (sym (o.1 ∙ append-nil o.0)) (goes_first o.0 o.2.1 (begun_goes 0 (o.0 ++ o.2.1) (begun o.2.2)))))
+fault_in ts stop f (here ∷ after) q o =
+    (loc.used, here, after, split, goes_on false 64 (tokens loc.used) (subst (Begins 0 false 64) used o.2), faults f q (subst (λ l. Cause (Begins 0) 64 f l here.token) used o.3) (subst InPlace q loc.at))
   where
-    at_end : (d : Tree) (us rest : List PlacedToken) → or_in (within_depth 64) ts ≡ got d rest → ts ≡ us ++ rest → Whole 64 0 d us → IsAnswer ts (end_read d rest)
-    at_end d us [] q split w = fault_of ts stop (Bad 0) [] us (ap (λ r. then_read r end_read) q) split (begun_of d us w) tt
-    at_end d us (z ∷ more) q split w = last (is_end z.token) refl
+    loc : At whole_filter ts (whole_filter ts)
+    loc = whole_local.here ts
+
+    split : ts ≡ loc.used ++ here ∷ after
+    split = loc.split ∙ ap (λ r. loc.used ++ rest_of r) q
+
+    used : o.0 ≡ tokens loc.used
+    used = append_cancel_right o.0 (tokens loc.used) (tokens (here ∷ after)) (sym o.1 ∙ ap (λ l. tokens l) split ∙ tokens_both loc.used (here ∷ after))
+
+    faults : (g : FilterFault) → whole_filter ts ≡ failed g (here ∷ after) → Cause (Begins 0) 64 g (tokens loc.used) here.token → IsAt g (here ∷ after) →
+        FaultsAt g (tokens loc.used ++ here.token ∷ []) here.offset
+    faults (Bad p) r c a = (a, λ d x. refused ts (Bad p) here after r loc true d x)
+    faults (NumberRange p) r c a = (a, (c.0, goes_on true c.0 (tokens loc.used ++ here.token ∷ []) c.2), λ d x. wrong (refused ts (NumberRange p) here after r loc false d x))
+    faults (TooDeep p) r c a = (
+      a,
+      (c.0, goes_on false c.0 (tokens loc.used ++ here.token ∷ []) c.2),
+      λ x. let more : 65 ≤ 64 = refused ts (TooDeep p) here after r loc false 64 x in omega (arith, more),
+    )
+    faults NoMemory r c a = a
+
+pub right : (ts : List PlacedToken) → Stopped (tokens ts) → IsAnswer ts (whole_filter ts)
+unfolding whole_filter
+right ts stop = of (whole_filter ts) refl whole
+  where
+    -- what the reading of the whole comes to
+    Whole : Step FilterTree → Type 0
+    Whole (got t rest) = AreFilter false 64 t (tokens ts)
+    Whole (failed f rest) = Failure (Begins 0) 64 ts f rest
+
+    at_end : (t : FilterTree) (rest : List PlacedToken) → Outcome 0 64 ts (got t rest) → Whole (end_read t rest)
+    at_end t [] o = (o.0, o.1, (t, [], subst (Spelled false 0 64 t) (sym (append-nil o.0)) o.2), tt)
+    at_end t (z ∷ more) o = last (is_end z.token) refl
       where
-        last : (b : Bool) → is_end z.token ≡ b → IsAnswer ts (if b then got d (z ∷ more) else failed (Bad z.offset) (z ∷ more))
-        last true e = record {
-          tree = w.tree;
-          stands = w.stands;
-          text = (us, z, split ∙ ap (λ l. us ++ z ∷ l) (stopped_last us z more (subst Stopped split stop) (ap (λ b. b || is_unknown z.token) e)), end_is z.token e, w.spelled);
-          range = w.range;
-          deep = w.deep;
-          is = w.is;
-        }
-        last false e =
-            fault_of ts stop (Bad z.offset) (z ∷ more) us
-            (ap (λ r. then_read r end_read) q ∙ ap (λ b. if b then got d (z ∷ more) else failed (Bad z.offset) (z ∷ more)) e) split (begun_of d us w) tt
+        last : (b : Bool) → is_end z.token ≡ b → Whole (if b then got t (z ∷ more) else failed (Bad z.offset) (z ∷ more))
+        last true e = (
+          o.0,
+          o.1 ∙ ap (λ l. o.0 ++ z.token ∷ l) (stopped_last o.0 z.token (tokens more) (subst Stopped o.1 stop) (ap (λ b. b || is_unknown z.token) e)) ∙ ap (λ u. o.0 ++ u ∷ []) (end_is z.token e),
+          o.2,
+        )
+        last false e = (o.0, o.1, (t, [], subst (Spelled false 0 64 t) (sym (append-nil o.0)) o.2), tt)
 
-    by : (r : Step Tree) → or_in (within_depth 64) ts ≡ r → Outcome 64 0 ts r → IsAnswer ts (then_read r end_read)
-    by (got d rest) q o = at_end d o.0 rest q o.1 o.2
-    by (failed f rest) q o = fault_of ts stop f rest o.0 (ap (λ r. then_read r end_read) q) o.1 o.2 o.3
+    by : (r : Step FilterTree) → Outcome 0 64 ts r → Whole (then_read r end_read)
+    by (got t rest) o = at_end t rest o
+    by (failed f rest) o = o
 
--- ---- one answer
+    whole : Whole (whole_filter ts)
+    whole = by (or_in (within_depth 64) ts) (sound_or 64 (within_depth 64) (within_sound 64) ts)
 
--- a filter within the limits does not pass a fault
-pub kept : (e : Tree) (f : FilterFault) → InRange e → nesting e ≤ 64 → Passes e f → ⊥
-kept e (Bad o) r d p = p
-kept e (NumberRange o) r d p = p r
-kept e (TooDeep o) r d p = omega (arith, d, p)
-kept e NoMemory r d p = p
-
-pub not_both : (ts : List PlacedToken) (d : Tree) (f : FilterFault) → IsFilter ts d → IsFault ts f → ⊥
-not_both ts d f a b =
-    kept a.tree f a.range a.deep (b.none a.tree b.after a.stands (a.text.0, a.text.1, sym b.split ∙ a.text.2, a.text.3, a.text.4))
+    of : (r : Step FilterTree) → whole_filter ts ≡ r → Whole r → IsAnswer ts r
+    of (got t rest) q o = o
+    of (failed f rest) q o = fault_in ts stop f rest q o

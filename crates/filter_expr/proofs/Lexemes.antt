@@ -1,35 +1,37 @@
 -- A token that the lexer finds is spelled by the bytes that it takes, and ends where they do.
-use Rattle.std.proofs.Common.{◌≡◌, ◌≢◌, ℕ, zero, suc, ◌+◌, ◌^◌, ◌<◌, ◌==◌, Bool, true, false, not, ◌||◌, ◌&&◌, nat_lt, if◌then◌else◌, List, [], ◌∷◌, ◌++◌, drop, take, length, get_or, Option, Some, None, ◌⊎◌, inl, inr, refl, sym, ap, ◌∙◌, subst, arith, pos}
+use Rattle.std.proofs.Common.{◌≡◌, ◌≢◌, ℕ, zero, suc, ◌+◌, ◌^◌, ◌<◌, ◌≤◌, ◌==◌, Bool, true, false, not, ◌||◌, ◌&&◌, nat_lt, if◌then◌else◌, List, [], ◌∷◌, ◌++◌, drop, take, length, get_or, Option, Some, None, ◌⊎◌, inl, inr, refl, sym, ap, ◌∙◌, subst, arith, pos}
 use Rattle.std.specs.Prelude.{codes}
 use Rattle.std.specs.List.{prefix_len}
 use Rattle.std.specs.Str.{bytes_eq}
 use Rattle.std.proofs.lemmas.Bool.{eqb-true, eq-eqb, ltb-true, ltb-false}
 use Rattle.std.proofs.lemmas.List.{take_more}
-use Rattle.std.proofs.lemmas.List.Sums.{prefix_len_stops}
+use Rattle.std.proofs.lemmas.List.Sums.{prefix_len_stops, prefix_len-le-length}
 use Rattle.std.proofs.lemmas.Slice.Eq.{bytes_eq-Decides}
 use Rattle.plain_filters.specs.declared.CompareSign.TheVariants as «compare»
 use Rattle.filter_expr.specs.declared.tokens.Token.{Token}
 use Rattle.filter_expr.specs.declared.tokens.Token.TheVariants as token
-use Rattle.filter_expr.specs.Trees.{is_unknown}
+use Rattle.filter_expr.specs.Signs.{is_unknown}
 use Rattle.farm_base.specs.Digits.{is_digit}
 use Rattle.filter_expr.specs.Spelling.{is_letter, is_word_byte, is_quote, is_escaped, is_attribute_byte, IsDigits, digits_number, IsQuoting, SpellsToken, begins_with, lengthens, EndsBefore, StandsFirst}
 use Rattle.filter_expr.specs.Lexing.{Taken, nothing, number_token, number_token_at, word_token, word_at, name_token_at, longer, quoting_len, quoted_text, quoted_of, quoted_at, single, less_at, sign_at, first_byte, token_at}
-use Rattle.filter_expr.proofs.Spelled.{wrong, split_bool, end_digits, end_words, run_all, run_stops, run_first}
+use Rattle.filter_expr.proofs.Chains.{wrong}
+use Rattle.filter_expr.proofs.Spelled.{split_bool, if_either, quotes, end_digits, end_words, run_all, run_stops, run_first}
 
--- where the token is one, it stands first
+-- where the token is one, it stands first; it takes a byte at least and no more than there are
 pub record Good (l : List ℕ) (r : Taken) : Type 0 where
   pub good : is_unknown r.0 ≡ false → StandsFirst r.0 (take r.1 l) (drop r.1 l)
+  pub least : 1 ≤ r.1
+  pub most : r.1 ≤ length l
 
-good_if : (l : List ℕ) (b : Bool) (x y : Taken) → (b ≡ true → Good l x) → (b ≡ false → Good l y) → Good l (if b then x else y)
-good_if l true x y h g = h refl
-good_if l false x y h g = g refl
-
-good_nothing : (l : List ℕ) → Good l nothing
-good_nothing l = record { good = λ u. absurd (wrong (sym u)) }
+good_nothing : (b : ℕ) (bs : List ℕ) → Good (b ∷ bs) nothing
+good_nothing b bs = record { good = λ u. absurd (wrong (sym u)); least = omega arith; most = omega arith }
 
 -- a token by the bytes that it takes
-good_at : (l : List ℕ) (t : Token) (n : ℕ) (us more : List ℕ) → take n l ≡ us → drop n l ≡ more → StandsFirst t us more → Good l (t, n)
-good_at l t n us more a b h = record { good = λ _. subst (λ x. StandsFirst t x (drop n l)) (sym a) (subst (λ x. StandsFirst t us x) (sym b) h) }
+good_at : (l : List ℕ) (t : Token) (n : ℕ) (us more : List ℕ) → take n l ≡ us → drop n l ≡ more → 1 ≤ n → n ≤ length l → StandsFirst t us more → Good l (t, n)
+good_at l t n us more a b f g h = record { good = λ _. subst (λ x. StandsFirst t x (drop n l)) (sym a) (subst (λ x. StandsFirst t us x) (sym b) h); least = f; most = g }
+
+run_least : (p : ℕ → Bool) (b : ℕ) (bs : List ℕ) → p b ≡ true → 1 ≤ prefix_len p (b ∷ bs)
+run_least p b bs h = rw h (omega arith)
 
 -- ---- numbers and words
 
@@ -54,6 +56,8 @@ number_good b bs h = record {
     number_spells (take (prefix_len is_digit (b ∷ bs)) (b ∷ bs)) (some_first (take (prefix_len is_digit (b ∷ bs)) (b ∷ bs)) b (take (prefix_len is_digit bs) bs) (run_first is_digit b bs h), run_all is_digit (b ∷ bs)),
     end_digits (take (prefix_len is_digit (b ∷ bs)) (b ∷ bs)) (drop (prefix_len is_digit (b ∷ bs)) (b ∷ bs)) (begins_run is_digit is_digit b bs true h h) (run_stops is_digit (b ∷ bs)),
   );
+  least = run_least is_digit b bs h;
+  most = prefix_len-le-length is_digit (b ∷ bs);
 }
 
 ladder : (w x : List ℕ) (t r : Token) → (w ≡ x → SpellsToken t w) → (is_unknown r ≡ false → SpellsToken r w) → is_unknown (if bytes_eq w x then t else r) ≡ false →
@@ -76,13 +80,15 @@ word_spells w =
 
 word_good : (b : ℕ) (bs : List ℕ) → is_digit b ≡ false → is_letter b ≡ true → Good (b ∷ bs) (word_at (b ∷ bs))
 unfolding word_at
-word_good b bs d h = record {
-  good = λ u.
-      let word : is_word_byte b ≡ true = ap (λ t. t || is_digit b || b == 95) h in (
+word_good b bs d h =
+    let word : is_word_byte b ≡ true = ap (λ t. t || is_digit b || b == 95) h in record {
+      good = λ u. (
         word_spells (take (prefix_len is_word_byte (b ∷ bs)) (b ∷ bs)) u,
         end_words (take (prefix_len is_word_byte (b ∷ bs)) (b ∷ bs)) (drop (prefix_len is_word_byte (b ∷ bs)) (b ∷ bs)) (begins_run is_digit is_word_byte b bs false word d) (begins_run is_letter is_word_byte b bs true word h) (run_stops is_word_byte (b ∷ bs)),
       );
-}
+      least = run_least is_word_byte b bs word;
+      most = prefix_len-le-length is_word_byte (b ∷ bs);
+    }
 
 -- ---- names and strings
 
@@ -102,11 +108,7 @@ bracket_ends us (c ∷ cs) = refl
 
 pub quote_ends : (q : ℕ) (us more : List ℕ) → is_quote q ≡ true → EndsBefore (q ∷ us) more
 quote_ends q us [] h = tt
-quote_ends q us (c ∷ cs) h = by (split_bool (q == 39))
-  where
-    by : ((q == 39) ≡ true) ⊎ ((q == 39) ≡ false) → lengthens (q ∷ us) c ≡ false
-    by (inl e) = subst (λ n. lengthens (n ∷ us) c ≡ false) (sym (eqb-true q 39 e)) refl
-    by (inr e) = subst (λ n. lengthens (n ∷ us) c ≡ false) (sym (eqb-true q 34 (sym (ap (λ b. b || q == 34) e) ∙ h))) refl
+quote_ends q us (c ∷ cs) h = quotes (λ n. lengthens (n ∷ us) c ≡ false) refl refl q h
 
 some_taken : (n : ℕ) (bs : List ℕ) → (n == 0) ≡ false → n < length bs → take n bs ≢ []
 some_taken zero bs e h = absurd (wrong (sym e))
@@ -116,16 +118,16 @@ some_taken (suc n) (b ∷ bs) e h = some_first (b ∷ take n bs) b (take n bs) r
 name_good : (bs : List ℕ) → Good (91 ∷ bs) (name_token_at bs)
 unfolding name_token_at
 name_good bs =
-    good_if (91 ∷ bs) (prefix_len is_attribute_byte bs == 0) _ _ (λ _. good_nothing (91 ∷ bs))
-    (λ z. good_if (91 ∷ bs) (nat_lt (prefix_len is_attribute_byte bs) (length bs)) _ _
+    if_either (Good (91 ∷ bs)) (prefix_len is_attribute_byte bs == 0) _ _ (λ _. good_nothing 91 bs)
+    (λ z. if_either (Good (91 ∷ bs)) (nat_lt (prefix_len is_attribute_byte bs) (length bs)) _ _
     (λ e.
     let less : prefix_len is_attribute_byte bs < length bs = ltb-true (prefix_len is_attribute_byte bs) (length bs) e in
     good_at (91 ∷ bs) (token.Name (take (prefix_len is_attribute_byte bs) bs)) (prefix_len is_attribute_byte bs + 2) (91 ∷ (take (prefix_len is_attribute_byte bs) bs ++ 93 ∷ [])) (drop (prefix_len is_attribute_byte bs + 2) (91 ∷ bs))
     (take_two 91 bs (prefix_len is_attribute_byte bs) less
     ∙ ap (λ x. 91 ∷ (take (prefix_len is_attribute_byte bs) bs ++ x ∷ [])) (name_end (get_or bs (prefix_len is_attribute_byte bs) 0) (prefix_len_stops is_attribute_byte bs 0 less)))
-    refl
+    refl (omega arith) (omega (arith, less))
     ((refl, some_taken (prefix_len is_attribute_byte bs) bs z less, run_all is_attribute_byte bs), bracket_ends (take (prefix_len is_attribute_byte bs) bs ++ 93 ∷ []) (drop (prefix_len is_attribute_byte bs + 2) (91 ∷ bs))))
-    (λ _. good_nothing (91 ∷ bs)))
+    (λ _. good_nothing 91 bs))
 
 -- a text in quotes, where a backslash stood just before or not
 abbrev Quoting : ℕ → Bool → List ℕ → List ℕ → Type 0
@@ -164,19 +166,15 @@ closed_plain q b bs h g (Some n) c = record {
     apart : (x y : ℕ) → (x == y) ≡ false → x ≢ y
     apart x y e s = wrong (sym e ∙ eq-eqb x y s)
 
-closed_if : (q : ℕ) (e : Bool) (bs : List ℕ) (b : Bool) (x y : Option ℕ) → (b ≡ true → ClosedAt q e bs x) → (b ≡ false → ClosedAt q e bs y) → ClosedAt q e bs (if b then x else y)
-closed_if q e bs true x y h g = h refl
-closed_if q e bs false x y h g = g refl
-
 closed_at : (q : ℕ) (e : Bool) (bs : List ℕ) → ClosedAt q e bs (quoting_len q e bs)
 unfolding quoting_len quoted_text
 closed_at q e [] = tt
 closed_at q true (b ∷ bs) =
-    closed_if q true (b ∷ bs) (is_escaped b) (longer (quoting_len q false bs)) None (λ h. closed_escaped q b bs h (quoting_len q false bs) (closed_at q false bs)) (λ _. tt)
+    if_either (ClosedAt q true (b ∷ bs)) (is_escaped b) (longer (quoting_len q false bs)) None (λ h. closed_escaped q b bs h (quoting_len q false bs) (closed_at q false bs)) (λ _. tt)
 closed_at q false (b ∷ bs) =
-    closed_if q false (b ∷ bs) (b == q) (Some 0) (if b == 92 then longer (quoting_len q true bs) else longer (quoting_len q false bs))
+    if_either (ClosedAt q false (b ∷ bs)) (b == q) (Some 0) (if b == 92 then longer (quoting_len q true bs) else longer (quoting_len q false bs))
     (λ h. record { less = omega arith; quote = eqb-true b q h; text = refl })
-    (λ h. closed_if q false (b ∷ bs) (b == 92) (longer (quoting_len q true bs)) (longer (quoting_len q false bs))
+    (λ h. if_either (ClosedAt q false (b ∷ bs)) (b == 92) (longer (quoting_len q true bs)) (longer (quoting_len q false bs))
     (λ g. subst (λ x. ClosedAt q false (x ∷ bs) (longer (quoting_len q true bs))) (sym (eqb-true b 92 g)) (closed_backslash q bs (quoting_len q true bs) (closed_at q true bs)))
     (λ g. closed_plain q b bs h g (quoting_len q false bs) (closed_at q false bs)))
 
@@ -185,21 +183,21 @@ unfolding quoted_at
 quoted_good q bs h = by (quoting_len q false bs) (closed_at q false bs)
   where
     by : (o : Option ℕ) → ClosedAt q false bs o → Good (q ∷ bs) (quoted_of bs o)
-    by None c = good_nothing (q ∷ bs)
+    by None c = good_nothing q bs
     by (Some n) c =
         good_at (q ∷ bs) (token.Quoted (quoted_text false (take n bs))) (n + 2) (q ∷ (take n bs ++ q ∷ [])) (drop (n + 2) (q ∷ bs))
-        (take_two q bs n c.less ∙ ap (λ x. q ∷ (take n bs ++ x ∷ [])) c.quote) refl
+        (take_two q bs n c.less ∙ ap (λ x. q ∷ (take n bs ++ x ∷ [])) c.quote) refl (omega arith) (omega (arith, c.less))
         ((q, take n bs, refl, h, c.text), quote_ends q (take n bs ++ q ∷ []) (drop (n + 2) (q ∷ bs)) h)
 
 -- ---- signs
 
 one_good : (k b : ℕ) (bs : List ℕ) (t : Token) → (b == k) ≡ true → SpellsToken t (k ∷ []) → EndsBefore (k ∷ []) bs → Good (b ∷ bs) (t, 1)
-one_good k b bs t e s h = good_at (b ∷ bs) t 1 (k ∷ []) bs (ap (λ x. x ∷ []) (eqb-true b k e)) refl (s, h)
+one_good k b bs t e s h = good_at (b ∷ bs) t 1 (k ∷ []) bs (ap (λ x. x ∷ []) (eqb-true b k e)) refl (omega arith) (omega arith) (s, h)
 
 two_good : (k j b : ℕ) (bs : List ℕ) (t : Token) → (b == k) ≡ true → (first_byte bs == suc j) ≡ true → SpellsToken t (k ∷ suc j ∷ []) → ((more : List ℕ) → EndsBefore (k ∷ suc j ∷ []) more) → Good (b ∷ bs) (t, 2)
 two_good k j b [] t e g s h = absurd (omega (arith, eqb-true 0 (suc j) g))
 two_good k j b (c ∷ cs) t e g s h =
-    good_at (b ∷ c ∷ cs) t 2 (k ∷ suc j ∷ []) cs (ap (λ x. x ∷ c ∷ []) (eqb-true b k e) ∙ ap (λ x. k ∷ x ∷ []) (eqb-true c (suc j) g)) refl (s, h cs)
+    good_at (b ∷ c ∷ cs) t 2 (k ∷ suc j ∷ []) cs (ap (λ x. x ∷ c ∷ []) (eqb-true b k e) ∙ ap (λ x. k ∷ x ∷ []) (eqb-true c (suc j) g)) refl (omega arith) (omega arith) (s, h cs)
 
 -- a sign that no byte makes a longer one
 alone : (us : List ℕ) → ((c : ℕ) → lengthens us c ≡ false) → (more : List ℕ) → EndsBefore us more
@@ -220,7 +218,7 @@ single_good b bs =
     (step 47 token.Divide _ refl (alone (codes "/") (λ _. refl) bs)
     (step 37 token.Rest _ refl (alone (codes "%") (λ _. refl) bs)
     (step 40 token.Open _ refl (alone (codes "(") (λ _. refl) bs)
-    (step 41 token.Close token.Unknown refl (alone (codes ")") (λ _. refl) bs) (good_nothing (b ∷ bs))))))))
+    (step 41 token.Close token.Unknown refl (alone (codes ")") (λ _. refl) bs) (good_nothing b bs)))))))
   where
     step : (k : ℕ) (t r : Token) → SpellsToken t (k ∷ []) → EndsBefore (k ∷ []) bs → Good (b ∷ bs) (r, 1) → Good (b ∷ bs) (if b == k then t else r, 1)
     step k t r s h g = by (b == k) refl
@@ -232,8 +230,8 @@ single_good b bs =
 less_good : (b : ℕ) (bs : List ℕ) → (b == 60) ≡ true → Good (b ∷ bs) (less_at (first_byte bs))
 unfolding less_at
 less_good b bs h =
-    good_if (b ∷ bs) (first_byte bs == 61) _ _ (λ e. two_good 60 60 b bs (token.Compare compare.LessEqual) h e refl (alone (codes "<=") (λ _. refl)))
-    (λ n. good_if (b ∷ bs) (first_byte bs == 62) _ _ (λ e. two_good 60 61 b bs (token.Compare compare.Unequal) h e (inr refl) (alone (codes "<>") (λ _. refl)))
+    if_either (Good (b ∷ bs)) (first_byte bs == 61) _ _ (λ e. two_good 60 60 b bs (token.Compare compare.LessEqual) h e refl (alone (codes "<=") (λ _. refl)))
+    (λ n. if_either (Good (b ∷ bs)) (first_byte bs == 62) _ _ (λ e. two_good 60 61 b bs (token.Compare compare.Unequal) h e (inr refl) (alone (codes "<>") (λ _. refl)))
     (λ m. one_good 60 b bs (token.Compare compare.Less) h refl (ends bs n m)))
   where
     ends : (bs : List ℕ) → (first_byte bs == 61) ≡ false → (first_byte bs == 62) ≡ false → EndsBefore (codes "<") bs
@@ -243,18 +241,18 @@ less_good b bs h =
 sign_good : (b : ℕ) (bs : List ℕ) → Good (b ∷ bs) (sign_at b (first_byte bs))
 unfolding sign_at
 sign_good b bs =
-    good_if (b ∷ bs) (b == 61) _ _ (λ e. one_good 61 b bs (token.Compare compare.Equal) e refl (alone (codes "=") (λ _. refl) bs))
-    (λ _. good_if (b ∷ bs) (b == 33) _ _
-    (λ h. good_if (b ∷ bs) (first_byte bs == 61) _ _ (λ e. two_good 33 60 b bs (token.Compare compare.Unequal) h e (inl refl) (alone (codes "!=") (λ _. refl)))
+    if_either (Good (b ∷ bs)) (b == 61) _ _ (λ e. one_good 61 b bs (token.Compare compare.Equal) e refl (alone (codes "=") (λ _. refl) bs))
+    (λ _. if_either (Good (b ∷ bs)) (b == 33) _ _
+    (λ h. if_either (Good (b ∷ bs)) (first_byte bs == 61) _ _ (λ e. two_good 33 60 b bs (token.Compare compare.Unequal) h e (inl refl) (alone (codes "!=") (λ _. refl)))
     (λ n. one_good 33 b bs token.Not h (inr refl) (before_other (codes "!") 61 bs (λ c e. ap (λ x. (x && true) || false) e) n)))
-    (λ _. good_if (b ∷ bs) (b == 60) _ _ (less_good b bs)
-    (λ _. good_if (b ∷ bs) (b == 62) _ _
-    (λ h. good_if (b ∷ bs) (first_byte bs == 61) _ _ (λ e. two_good 62 60 b bs (token.Compare compare.GreaterEqual) h e refl (alone (codes ">=") (λ _. refl)))
+    (λ _. if_either (Good (b ∷ bs)) (b == 60) _ _ (less_good b bs)
+    (λ _. if_either (Good (b ∷ bs)) (b == 62) _ _
+    (λ h. if_either (Good (b ∷ bs)) (first_byte bs == 61) _ _ (λ e. two_good 62 60 b bs (token.Compare compare.GreaterEqual) h e refl (alone (codes ">=") (λ _. refl)))
     (λ n. one_good 62 b bs (token.Compare compare.Greater) h refl (before_other (codes ">") 61 bs (λ c e. ap (λ x. (x && true) || false) e) n)))
-    (λ _. good_if (b ∷ bs) (b == 38) _ _
-    (λ h. good_if (b ∷ bs) (first_byte bs == 38) _ _ (λ e. two_good 38 37 b bs token.And h e (inr refl) (alone (codes "&&") (λ _. refl))) (λ _. good_nothing (b ∷ bs)))
-    (λ _. good_if (b ∷ bs) (b == 124) _ _
-    (λ h. good_if (b ∷ bs) (first_byte bs == 124) _ _ (λ e. two_good 124 123 b bs token.Or h e (inr refl) (alone (codes "||") (λ _. refl))) (λ _. good_nothing (b ∷ bs)))
+    (λ _. if_either (Good (b ∷ bs)) (b == 38) _ _
+    (λ h. if_either (Good (b ∷ bs)) (first_byte bs == 38) _ _ (λ e. two_good 38 37 b bs token.And h e (inr refl) (alone (codes "&&") (λ _. refl))) (λ _. good_nothing b bs))
+    (λ _. if_either (Good (b ∷ bs)) (b == 124) _ _
+    (λ h. if_either (Good (b ∷ bs)) (first_byte bs == 124) _ _ (λ e. two_good 124 123 b bs token.Or h e (inr refl) (alone (codes "||") (λ _. refl))) (λ _. good_nothing b bs))
     (λ _. single_good b bs))))))
 
 -- ---- all tokens
@@ -262,8 +260,8 @@ sign_good b bs =
 pub token_good : (b : ℕ) (bs : List ℕ) → Good (b ∷ bs) (token_at (b ∷ bs))
 unfolding token_at
 token_good b bs =
-    good_if (b ∷ bs) (is_digit b) _ _ (number_good b bs)
-    (λ d. good_if (b ∷ bs) (is_letter b) _ _ (word_good b bs d)
-    (λ _. good_if (b ∷ bs) (b == 91) _ _ (λ e. subst (λ x. Good (x ∷ bs) (name_token_at bs)) (sym (eqb-true b 91 e)) (name_good bs))
-    (λ _. good_if (b ∷ bs) (is_quote b) _ _ (quoted_good b bs)
+    if_either (Good (b ∷ bs)) (is_digit b) _ _ (number_good b bs)
+    (λ d. if_either (Good (b ∷ bs)) (is_letter b) _ _ (word_good b bs d)
+    (λ _. if_either (Good (b ∷ bs)) (b == 91) _ _ (λ e. subst (λ x. Good (x ∷ bs) (name_token_at bs)) (sym (eqb-true b 91 e)) (name_good bs))
+    (λ _. if_either (Good (b ∷ bs)) (is_quote b) _ _ (quoted_good b bs)
     (λ _. sign_good b bs))))

@@ -1,7 +1,7 @@
 -- Steps of the loops of the lexer, each against its definition.
-use Rattle.std.proofs.Common.{◌≡◌, ℕ, zero, suc, ◌+◌, ◌-◌, ◌*◌, ◌^◌, ◌<◌, ◌≤◌, ◌==◌, List, [], ◌∷◌, ◌++◌, length, get_or, drop, take, Bool, true, false, not, ◌||◌, nat_lt, Option, Some, None, if◌then◌else◌, refl, sym, ◌∙◌, ap, arith, add-one, one-add, zero-add, add-zero, append_assoc, subst, pos}
+use Rattle.std.proofs.Common.{◌≡◌, ℕ, zero, suc, ◌+◌, ◌-◌, ◌*◌, ◌^◌, ◌<◌, ◌≤◌, ◌==◌, List, [], ◌∷◌, ◌++◌, length, get_or, drop, take, Bool, true, false, not, Option, Some, None, if◌then◌else◌, refl, sym, ◌∙◌, ap, arith, add-one, one-add, zero-add, add-zero, append_assoc, subst, pos}
 use Rattle.std.proofs.lemmas.List.{drop_more, drop_all, take_all, append-nil, length-drop, drop-drop}
-use Rattle.std.proofs.lemmas.Bool.{eqb-true, ltb-true, lt-ltb, le-ltb}
+use Rattle.std.proofs.lemmas.Bool.{eqb-true, lt-ltb, le-ltb}
 use Rattle.std.proofs.lemmas.Str.{IsCharBoundary-before_ascii, IsCharBoundary-after_ascii, IsCharBoundary-start, lead_after_ascii}
 use Rattle.std.proofs.lemmas.List.Sums.{prefix_len-drop_yes, prefix_len-drop_no, prefix_len-drop_all, prefix_len-le-length, prefix_len_stops}
 use Rattle.std.specs.List.{prefix_len}
@@ -9,13 +9,13 @@ use Rattle.std.specs.Str.{IsCharBoundary, IsUtf8}
 use Rattle.filter_expr.specs.declared.tokens.PlacedToken.{PlacedToken}
 use Rattle.filter_expr.specs.declared.tokens.Token.{Token}
 use Rattle.filter_expr.specs.declared.tokens.Token.TheVariants as token
-use Rattle.filter_expr.specs.Trees.{is_unknown}
-use Rattle.farm_base.specs.Digits.{is_digit, number_after}
-use Rattle.filter_expr.specs.Spelling.{is_blank, is_escaped, is_attribute_byte, is_letter, is_word_byte, is_quote, digits_number}
-use Rattle.filter_expr.specs.Lexing.{Taken, nothing, single, quoted_of, first_byte, word_token, longer, quoting_len, quoted_text, is_plain_byte, number_token, number_token_at, word_at, name_token_at, quoted_at, sign_at, less_at, token_at, tokens_from}
-
-wrong : false ≡ true → ⊥
-wrong e = grind arith
+use Rattle.filter_expr.specs.Signs.{is_unknown}
+use Rattle.farm_base.specs.Digits.{number_after}
+use Rattle.filter_expr.specs.Spelling.{is_blank, is_escaped, is_attribute_byte, digits_number}
+use Rattle.filter_expr.specs.inner.Runs.{is_plain_byte}
+use Rattle.filter_expr.specs.Lexing.{Taken, longer, quoting_len, quoted_text, number_token, token_at, tokens_from}
+use Rattle.filter_expr.proofs.Chains.{wrong}
+use Rattle.filter_expr.proofs.Lexemes.{token_good}
 
 -- ---- runs
 
@@ -176,108 +176,6 @@ escapes_go out rest kept more mid new content n read run less one two here =
 
 -- ---- the tokens of a text
 
-prefix_some : (p : ℕ → Bool) (b : ℕ) (bs : List ℕ) → p b ≡ true → 1 ≤ prefix_len p (b ∷ bs)
-prefix_some p b bs h = rw h (omega arith)
-
--- a sign takes one byte or two, and one before the end
-record Small (c : ℕ) (r : Taken) : Type 0 where
-  least : 1 ≤ r.1
-  most : r.1 ≤ 2
-  last : c ≡ 0 → r.1 ≡ 1
-
-one_byte : (c : ℕ) (t : Token) → Small c (t, 1)
-one_byte c t = record { least = omega arith; most = omega arith; last = λ _. refl }
-
-two_bytes : (c k : ℕ) (t : Token) → (c == suc k) ≡ true → Small c (t, 2)
-two_bytes c k t e = record { least = omega arith; most = omega arith; last = λ z. absurd (omega (arith, z, eqb-true c (suc k) e)) }
-
-small_if : (c : ℕ) (b : Bool) (x y : Taken) → (b ≡ true → Small c x) → (b ≡ false → Small c y) → Small c (if b then x else y)
-small_if c true x y h g = h refl
-small_if c false x y h g = g refl
-
-less_small : (c : ℕ) → Small c (less_at c)
-unfolding less_at
-less_small c =
-    small_if c (c == 61) _ _ (two_bytes c 60 _)
-    (λ _. small_if c (c == 62) _ _ (two_bytes c 61 _) (λ _. one_byte c _))
-
-sign_small : (b c : ℕ) → Small c (sign_at b c)
-unfolding sign_at
-sign_small b c =
-    small_if c (b == 61) _ _ (λ _. one_byte c _)
-    (λ _. small_if c (b == 33) _ _ (λ _. small_if c (c == 61) _ _ (two_bytes c 60 _) (λ _. one_byte c _))
-    (λ _. small_if c (b == 60) _ _ (λ _. less_small c)
-    (λ _. small_if c (b == 62) _ _ (λ _. small_if c (c == 61) _ _ (two_bytes c 60 _) (λ _. one_byte c _))
-    (λ _. small_if c (b == 38) _ _ (λ _. small_if c (c == 38) _ _ (two_bytes c 37 _) (λ _. one_byte c _))
-    (λ _. small_if c (b == 124) _ _ (λ _. small_if c (c == 124) _ _ (two_bytes c 123 _) (λ _. one_byte c _))
-    (λ _. one_byte c (single b)))))))
-
--- a token takes a byte at least and no more than there are
-pub record Fits (n : ℕ) (r : Taken) : Type 0 where
-  pub least : 1 ≤ r.1
-  pub most : r.1 ≤ n
-
-fits_if : (n : ℕ) (b : Bool) (x y : Taken) → (b ≡ true → Fits n x) → (b ≡ false → Fits n y) → Fits n (if b then x else y)
-fits_if n true x y h g = h refl
-fits_if n false x y h g = g refl
-
-run_fits : (p : ℕ → Bool) (b : ℕ) (bs : List ℕ) (t : Token) → p b ≡ true → Fits (length (b ∷ bs)) (t, prefix_len p (b ∷ bs))
-run_fits p b bs t h = record { least = prefix_some p b bs h; most = prefix_len-le-length p (b ∷ bs) }
-
-nothing_fits : (n : ℕ) → Fits (suc n) nothing
-nothing_fits n = record { least = omega arith; most = omega arith }
-
-name_fits : (bs : List ℕ) → Fits (suc (length bs)) (name_token_at bs)
-unfolding name_token_at
-name_fits bs =
-    fits_if (suc (length bs)) (prefix_len is_attribute_byte bs == 0) _ _ (λ _. nothing_fits (length bs))
-    (λ _. fits_if (suc (length bs)) (nat_lt (prefix_len is_attribute_byte bs) (length bs)) _ _
-    (λ e. record { least = omega arith; most = omega (arith, ltb-true (prefix_len is_attribute_byte bs) (length bs) e) }) (λ _. nothing_fits (length bs)))
-
-abbrev AllBelow : ℕ → Option ℕ → Type 0
-AllBelow m None = Unit {0}
-AllBelow m (Some n) = n < m
-
-longer_below : (m : ℕ) (o : Option ℕ) → AllBelow m o → AllBelow (suc m) (longer o)
-longer_below m None h = tt
-longer_below m (Some n) h = omega (arith, h)
-
-below_if : (m : ℕ) (b : Bool) (x y : Option ℕ) → AllBelow m x → AllBelow m y → AllBelow m (if b then x else y)
-below_if m true x y h g = h
-below_if m false x y h g = g
-
-pub quoting_below : (q : ℕ) (e : Bool) (bs : List ℕ) → AllBelow (length bs) (quoting_len q e bs)
-unfolding quoting_len
-quoting_below q e [] = tt
-quoting_below q true (b ∷ bs) =
-    below_if (suc (length bs)) (is_escaped b) (longer (quoting_len q false bs)) None (longer_below (length bs) (quoting_len q false bs) (quoting_below q false bs)) tt
-quoting_below q false (b ∷ bs) =
-    let here : AllBelow (suc (length bs)) (Some 0) = omega arith in
-    below_if (suc (length bs)) (b == q) (Some 0) (if b == 92 then longer (quoting_len q true bs) else longer (quoting_len q false bs)) here
-    (below_if (suc (length bs)) (b == 92) (longer (quoting_len q true bs)) (longer (quoting_len q false bs))
-    (longer_below (length bs) (quoting_len q true bs) (quoting_below q true bs)) (longer_below (length bs) (quoting_len q false bs) (quoting_below q false bs)))
-
-quoted_fits : (q : ℕ) (bs : List ℕ) → Fits (suc (length bs)) (quoted_at q bs)
-unfolding quoted_at
-quoted_fits q bs = by (quoting_len q false bs) (quoting_below q false bs)
-  where
-    by : (o : Option ℕ) → AllBelow (length bs) o → Fits (suc (length bs)) (quoted_of bs o)
-    by None h = nothing_fits (length bs)
-    by (Some n) h = record { least = omega arith; most = omega (arith, h) }
-
-sign_fits : (b : ℕ) (bs : List ℕ) → Fits (suc (length bs)) (sign_at b (first_byte bs))
-sign_fits b [] = record { least = (sign_small b 0).least; most = omega (arith, (sign_small b 0).last refl) }
-sign_fits b (c ∷ bs) = record { least = (sign_small b c).least; most = omega (arith, (sign_small b c).most) }
-
-pub token_fits : (b : ℕ) (bs : List ℕ) → Fits (length (b ∷ bs)) (token_at (b ∷ bs))
-unfolding token_at number_token_at word_at
-token_fits b bs =
-    fits_if (length (b ∷ bs)) (is_digit b) _ _ (run_fits is_digit b bs (number_token (take (prefix_len is_digit (b ∷ bs)) (b ∷ bs))))
-    (λ _. fits_if (length (b ∷ bs)) (is_letter b) _ _ (λ e. run_fits is_word_byte b bs (word_token (take (prefix_len is_word_byte (b ∷ bs)) (b ∷ bs))) (ap (λ t. t || is_digit b || b == 95) e))
-    (λ _. fits_if (length (b ∷ bs)) (b == 91) _ _ (λ _. name_fits bs)
-    (λ _. fits_if (length (b ∷ bs)) (is_quote b) _ _ (λ _. quoted_fits b bs)
-    (λ _. sign_fits b bs))))
-
 -- of a token that was taken before, no byte begins another
 pub lexed_skips : (k at : ℕ) (bs : List ℕ) → k ≤ length bs → tokens_from at k bs ≡ tokens_from (at + k) 0 (drop k bs)
 unfolding tokens_from
@@ -319,11 +217,11 @@ module _ (bs : List ℕ) (at : ℕ) (h : at < length bs) where
         (ap (λ (x : Taken). is_unknown x.0) here ∙ u)
 
     pub token_least : 1 ≤ n
-    token_least = subst (λ (x : Taken). 1 ≤ x.1) here (token_fits (get_or bs at 0) (drop (at + 1) bs)).least
+    token_least = subst (λ (x : Taken). 1 ≤ x.1) here (token_good (get_or bs at 0) (drop (at + 1) bs)).least
 
     pub token_most : at + n ≤ length bs
     token_most =
-        let most : n ≤ length (get_or bs at 0 ∷ drop (at + 1) bs) = subst (λ (x : Taken). x.1 ≤ length (get_or bs at 0 ∷ drop (at + 1) bs)) here (token_fits (get_or bs at 0) (drop (at + 1) bs)).most in
+        let most : n ≤ length (get_or bs at 0 ∷ drop (at + 1) bs) = subst (λ (x : Taken). x.1 ≤ length (get_or bs at 0 ∷ drop (at + 1) bs)) here (token_good (get_or bs at 0) (drop (at + 1) bs)).most in
         omega (arith, most, length-drop (at + 1) bs)
 
     pub lexed_token : is_unknown t ≡ false → tokens_from at 0 (drop at bs) ≡ record { token = t; offset = at } ∷ tokens_from (at + n) 0 (drop (at + n) bs)

@@ -5,15 +5,16 @@ use Rattle.filter_expr.specs.declared.tokens.Token.{Token}
 use Rattle.filter_expr.specs.declared.tokens.Token.TheVariants as token
 use Rattle.filter_expr.specs.declared.faults.FilterFault.{FilterFault}
 use Rattle.filter_expr.specs.declared.faults.FilterFault.TheVariants.{Bad, NumberRange, TooDeep, NoMemory}
-use Rattle.filter_expr.specs.Trees.{Kind, JoinSign, sign_token, Tree, joins, chain, or_chain, and_chain, is_or, is_and}
-use Rattle.filter_expr.specs.Seen.{Part, terms_of}
+use Rattle.plain_filters.specs.declared.SumPart.{SumPart}
+use Rattle.plain_filters.specs.declared.ProductPart.{ProductPart}
+use Rattle.plain_filters.specs.Filters.{FilterTree, sum_tree, product_tree, sum_then, product_then, sums_of, products_of}
+use Rattle.filter_expr.specs.Signs.{Kind, joins, sum_chain, product_chain}
+use Rattle.filter_expr.specs.inner.Parts.{tree_of_sum, tree_of_product, read_sum, read_product}
 use Rattle.filter_expr.specs.inner.Gives.{Gives}
-use Rattle.filter_expr.specs.Reading.{got, failed, Reader, starts, first_token, join_of, next_sign, with_front, later, chain_or_part, chain_of}
-use Rattle.filter_expr.proofs.Signs.{sign_back}
-use Rattle.filter_expr.proofs.Chains.{Shortens, loop_fails, loop_ends, chain_fails, chain_reads}
-
-wrong : false ≡ true → ⊥
-wrong e = grind arith
+use Rattle.filter_expr.specs.inner.Kinds.{next_sign}
+use Rattle.filter_expr.specs.Reading.{Part, Step, got, failed, Reader, starts, first_token, sums_behind, products_behind, with_front, later, chain_or_part, chain_of}
+use Rattle.filter_expr.proofs.Forms.{sum_is, product_is}
+use Rattle.filter_expr.proofs.Chains.{wrong, Shortens, loop_fails, loop_ends, chain_fails, chain_reads}
 
 some_same : (t u : Token) → Some t ≡ Some u → t ≡ u
 some_same t u e = cc
@@ -27,12 +28,12 @@ sign_joins k (s ∷ ts) t h = by (joins k s.token) h
     by true e = refl
     by false e = absurd (cc)
 
-pub sign_is : (k : Kind) (ts : List PlacedToken) (j : JoinSign) → Some (sign_token j) ≡ next_sign k ts → join_of (first_token ts) ≡ j
-sign_is k [] j h = absurd (cc)
-sign_is k (s ∷ ts) j h = by (joins k s.token) h
+pub sign_is : (k : Kind) (ts : List PlacedToken) (t : Token) → Some t ≡ next_sign k ts → first_token ts ≡ t
+sign_is k [] t h = absurd (cc)
+sign_is k (s ∷ ts) t h = by (joins k s.token) h
   where
-    by : (b : Bool) → Some (sign_token j) ≡ (if b then Some s.token else None) → join_of s.token ≡ j
-    by true e = ap join_of (some_same s.token (sign_token j) (sym e)) ∙ sign_back j
+    by : (b : Bool) → Some t ≡ (if b then Some s.token else None) → s.token ≡ t
+    by true e = some_same s.token t (sym e)
     by false e = absurd (cc)
 
 pub no_sign : (k : Kind) (ts : List PlacedToken) → None ≡ next_sign k ts → starts (joins k) ts ≡ false
@@ -43,53 +44,50 @@ no_sign k (s ∷ ts) h = by (joins k s.token) h
     by true e = absurd (cc)
     by false e = refl
 
-module _ {X : Type 0} (view : X → Tree) (k : Kind) (part : Reader Tree) (short : Shortens part) where
+-- what fails as this does answers as this does
+pub fails_so : {A X : Type 0} (view : X → A) (f : FilterFault) (us : List PlacedToken) (r q : Step A) → ((g : FilterFault) → r ≡ failed g us → q ≡ failed g us) → Gives view (Err f) us r → Gives view (Err f) us q
+fails_so view (Bad o) us r q same h = same (Bad o) h
+fails_so view (NumberRange o) us r q same h = same (NumberRange o) h
+fails_so view (TooDeep o) us r q same h = same (TooDeep o) h
+fails_so view NoMemory us r q same h = tt
+
+module _ {X : Type 0} (view : X → FilterTree) (k : Kind) (part : Reader FilterTree) (short : Shortens part) where
   -- the first part goes wrong
   pub first_fails : (ts us : List PlacedToken) (f : FilterFault) → Gives view (Err f) us (part ts) → Gives view (Err f) us (chain_of k part ts)
-  first_fails ts us (Bad o) h = chain_fails k part ts us (Bad o) h
-  first_fails ts us (NumberRange o) h = chain_fails k part ts us (NumberRange o) h
-  first_fails ts us (TooDeep o) h = chain_fails k part ts us (TooDeep o) h
-  first_fails ts us NoMemory h = tt
+  first_fails ts us f h = fails_so view f us (part ts) (chain_of k part ts) (λ g e. chain_fails k part ts us g e) h
 
-  module _ (all after : List PlacedToken) (e : Tree) (first : part all ≡ got e after) (front : List Part) (ts : List PlacedToken)
+  module _ (all after : List PlacedToken) (t : FilterTree) (first : part all ≡ got t after) (front : List Part) (ts : List PlacedToken)
       (read : with_front front (later k part ts) ≡ later k part after) where
-    fails : (f : FilterFault) (us : List PlacedToken) → starts (joins k) ts ≡ true → part (drop 1 ts) ≡ failed f us → chain_of k part all ≡ failed f us
-    fails f us next here =
-        chain_reads k part all after e (failed f us) first (loop_fails k part short front ts (later k part after) read f us next here)
-
     -- a later part goes wrong
     pub part_fails : starts (joins k) ts ≡ true → (f : FilterFault) (us : List PlacedToken) → Gives view (Err f) us (part (drop 1 ts)) → Gives view (Err f) us (chain_of k part all)
-    part_fails next (Bad o) us h = fails (Bad o) us next h
-    part_fails next (NumberRange o) us h = fails (NumberRange o) us next h
-    part_fails next (TooDeep o) us h = fails (TooDeep o) us next h
-    part_fails next NoMemory us h = tt
+    part_fails next f us h =
+        fails_so view f us (part (drop 1 ts)) (chain_of k part all)
+        (λ g e. chain_reads k part all after t (failed g us) first (loop_fails k part short front ts (later k part after) read g us next e)) h
 
     -- no part is left
-    pub chain_ends : starts (joins k) ts ≡ false → chain_of k part all ≡ got (chain_or_part k e front) ts
-    chain_ends stop = chain_reads k part all after e (got front ts) first (loop_ends k part short front ts (later k part after) read stop)
+    pub chain_ends : starts (joins k) ts ≡ false → chain_of k part all ≡ got (chain_or_part k t front) ts
+    chain_ends stop = chain_reads k part all after t (got front ts) first (loop_ends k part short front ts (later k part after) read stop)
 
--- a chain with later parts is a chain
+-- ---- the chain of the parts that were read
 
-pub more_parts : {X : Type 0} (k : Kind) (e : Tree) (f : X → Part) (xs : List X) → (length xs ≡ 0 → ⊥) → chain_or_part k e (map f xs) ≡ chain k e (terms_of (map f xs))
-more_parts k e f [] h = absurd (h refl)
-more_parts k e f (x ∷ xs) h = refl
+sums_same : (ps : List SumPart) → sums_behind (map read_sum ps) ≡ sums_of (map tree_of_sum ps)
+sums_same [] = refl
+sums_same (p ∷ ps) =
+    ap (λ c. sum_then c (tree_of_sum p).1 (sums_behind (map read_sum ps))) (sum_is (tree_of_sum p).0).2 ∙ ap (sum_then (tree_of_sum p).0 (tree_of_sum p).1) (sums_same ps)
 
--- both spellings of such a sign are one token
-pub or_first : (ts : List PlacedToken) → starts (joins or_chain) ts ≡ true → first_token ts ≡ token.Or
-or_first [] h = absurd (wrong h)
-or_first (s ∷ ts) h = by s.token h
-  where
-    by : (t : Token) → is_or t ≡ true → t ≡ token.Or
-    by token.Or e = refl
-    by _ e = absurd (wrong e)
+products_same : (ps : List ProductPart) → products_behind (map read_product ps) ≡ products_of (map tree_of_product ps)
+products_same [] = refl
+products_same (p ∷ ps) =
+    ap (λ c. product_then c (tree_of_product p).1 (products_behind (map read_product ps))) (product_is (tree_of_product p).0).2
+    ∙ ap (product_then (tree_of_product p).0 (tree_of_product p).1) (products_same ps)
 
-pub and_first : (ts : List PlacedToken) → starts (joins and_chain) ts ≡ true → first_token ts ≡ token.And
-and_first [] h = absurd (wrong h)
-and_first (s ∷ ts) h = by s.token h
-  where
-    by : (t : Token) → is_and t ≡ true → t ≡ token.And
-    by token.And e = refl
-    by _ e = absurd (wrong e)
+pub sum_made : (t : FilterTree) (ps : List SumPart) → (length ps ≡ 0 → ⊥) → chain_or_part sum_chain t (map read_sum ps) ≡ sum_tree t (sums_of (map tree_of_sum ps))
+sum_made t [] h = absurd (h refl)
+sum_made t (p ∷ ps) h = ap (sum_tree t) (sums_same (p ∷ ps))
+
+pub product_made : (t : FilterTree) (ps : List ProductPart) → (length ps ≡ 0 → ⊥) → chain_or_part product_chain t (map read_product ps) ≡ product_tree t (products_of (map tree_of_product ps))
+product_made t [] h = absurd (h refl)
+product_made t (p ∷ ps) h = ap (product_tree t) (products_same (p ∷ ps))
 
 -- no sign was found
 pub none_found : {S : Type 0} (f : S → Token) (o : Option S) (n : Option Token) (b : Bool) → option_map f o ≡ n → is_some o ≡ not b → b ≡ true → None ≡ n

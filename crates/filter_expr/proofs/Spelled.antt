@@ -11,13 +11,15 @@ use Rattle.filter_expr.specs.declared.tokens.Token.TheVariants as token
 use Rattle.farm_base.specs.Digits.{is_digit}
 use Rattle.filter_expr.specs.Spelling.{is_letter, is_word_byte, is_quote, is_escaped, is_attribute_byte, IsDigits, digits_number, IsQuoting, SpellsToken, signs, begins_with, EndsBefore}
 use Rattle.filter_expr.specs.Lexing.{Taken, nothing, number_token, number_token_at, word_token, word_at, name_token_at, longer, quoting_len, quoted_text, quoted_of, quoted_at, single, less_at, sign_at, first_byte, token_at}
-
-pub wrong : false ≡ true → ⊥
-wrong e = grind arith
+use Rattle.filter_expr.proofs.Chains.{wrong}
 
 pub split_bool : (b : Bool) → (b ≡ true) ⊎ (b ≡ false)
 split_bool true = inl refl
 split_bool false = inr refl
+
+pub if_either : {A : Type 0} (P : A → Type 0) (b : Bool) (x y : A) → (b ≡ true → P x) → (b ≡ false → P y) → P (if b then x else y)
+if_either P true x y h g = h refl
+if_either P false x y h g = g refl
 
 -- ---- runs
 
@@ -153,12 +155,13 @@ name_found n more some all =
     not_zero [] h = absurd (h refl)
     not_zero (b ∷ bs) h = not_equal (length (b ∷ bs)) 0 (λ e. absurd (omega (arith, e)))
 
-quote_no_escape : (q : ℕ) → is_quote q ≡ true → (q == 92) ≡ false
-quote_no_escape q h = by (split_bool (q == 39))
+-- a quote is one of the two
+pub quotes : (P : ℕ → Type 0) → P 39 → P 34 → (q : ℕ) → is_quote q ≡ true → P q
+quotes P a b q h = by (split_bool (q == 39))
   where
-    by : ((q == 39) ≡ true) ⊎ ((q == 39) ≡ false) → (q == 92) ≡ false
-    by (inl e) = ap (λ x. x == 92) (eqb-true q 39 e)
-    by (inr e) = ap (λ x. x == 92) (eqb-true q 34 (sym (ap (λ b. b || q == 34) e) ∙ h))
+    by : ((q == 39) ≡ true) ⊎ ((q == 39) ≡ false) → P q
+    by (inl e) = subst P (sym (eqb-true q 39 e)) a
+    by (inr e) = subst P (sym (eqb-true q 34 (sym (ap (λ t. t || q == 34) e) ∙ h))) b
 
 -- a quoted text is read up to its closing quote, and its escapes are taken away
 record Quoted (q : ℕ) (t vs more : List ℕ) : Type 0 where
@@ -205,7 +208,7 @@ quoting_found q (c ∷ cs) vs more h p = by p.2 (quoting_found q cs p.0 more h p
   where
     by : ((vs ≡ c ∷ p.0) × (c ≢ q) × (c ≢ 92)) ⊎ ((vs ≡ 92 ∷ c ∷ p.0) × IsTrue (is_escaped c)) → Quoted q cs p.0 more → Quoted q (c ∷ cs) vs more
     by (inl e) r = subst (λ l. Quoted q (c ∷ cs) l more) (sym e.0) (quoted_plain q c cs p.0 more e.1 e.2 r)
-    by (inr e) r = subst (λ l. Quoted q (c ∷ cs) l more) (sym e.0) (quoted_escape q c cs p.0 more (quote_no_escape q h) e.1 r)
+    by (inr e) r = subst (λ l. Quoted q (c ∷ cs) l more) (sym e.0) (quoted_escape q c cs p.0 more (quotes (λ c. (c == 92) ≡ false) refl refl q h) e.1 r)
 
 quoted_found : (q : ℕ) (t vs more : List ℕ) → is_quote q ≡ true → IsQuoting q t vs → ◌≡◌ {A = Taken} (quoted_at q ((vs ++ q ∷ []) ++ more)) (token.Quoted t, length vs + 2)
 unfolding quoted_at
@@ -216,13 +219,9 @@ quoted_found q t vs more h p =
     ∙ ap (λ l. taken (token.Quoted (quoted_text false l)) (length vs + 2)) (take_front vs (q ∷ more))
     ∙ ap (λ l. taken (token.Quoted l) (length vs + 2)) r.text
 
-quote_first : (q : ℕ) → is_quote q ≡ true → (bs : List ℕ) → token_at (q ∷ bs) ≡ quoted_at q bs
+quote_first : (bs : List ℕ) (q : ℕ) → is_quote q ≡ true → token_at (q ∷ bs) ≡ quoted_at q bs
 unfolding token_at
-quote_first q h bs = by (split_bool (q == 39))
-  where
-    by : ((q == 39) ≡ true) ⊎ ((q == 39) ≡ false) → token_at (q ∷ bs) ≡ quoted_at q bs
-    by (inl e) = subst (λ n. token_at (n ∷ bs) ≡ quoted_at n bs) (sym (eqb-true q 39 e)) refl
-    by (inr e) = subst (λ n. token_at (n ∷ bs) ≡ quoted_at n bs) (sym (eqb-true q 34 (sym (ap (λ b. b || q == 34) e) ∙ h))) refl
+quote_first bs = quotes (λ q. token_at (q ∷ bs) ≡ quoted_at q bs) refl refl
 
 -- ---- signs
 
@@ -272,7 +271,7 @@ token_complete (token.Name n) us more s e =
     name_length n = omega (arith, length-append n (93 ∷ []))
 token_complete (token.Quoted t) us more s e =
     subst (λ l. Found (token.Quoted t) l more) (sym s.2) record {
-      at = quote_first s.0 s.3 ((s.1 ++ s.0 ∷ []) ++ more) ∙ quoted_found s.0 t s.1 more s.3 s.4 ∙ ap (λ m. taken (token.Quoted t) m) (omega (arith, length-append s.1 (s.0 ∷ [])));
+      at = quote_first ((s.1 ++ s.0 ∷ []) ++ more) s.0 s.3 ∙ quoted_found s.0 t s.1 more s.3 s.4 ∙ ap (λ m. taken (token.Quoted t) m) (omega (arith, length-append s.1 (s.0 ∷ [])));
     }
 token_complete (token.Number z) us more s e = digits_found us more (token.Number z) s.0 e
     (ap (λ (b : Bool). if b then token.Number (pos (digits_number us)) else token.OutOfRange) (lt-ltb (digits_number us) (2 ^ 63) s.2) ∙ ap token.Number (sym s.1))

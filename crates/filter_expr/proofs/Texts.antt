@@ -1,6 +1,5 @@
--- What the grammar says of a text is what trees with the text's parentheses say of it; and each text has one answer at most.
-use Rattle.std.proofs.Common.{◌≡◌, ℕ, ◌≤◌, Bool, true, false, IsTrue, List, [], ◌∷◌, ◌++◌, map, inl, inr, Result, Ok, Err, refl, sym, ap, ◌∙◌, subst, arith, append_assoc}
-use Rattle.std.proofs.lemmas.List.{map-append}
+-- What a text says as a function is what the grammar says of it; and each text has one answer at most.
+use Rattle.std.proofs.Common.{◌≡◌, ℕ, true, false, List, [], ◌∷◌, ◌++◌, ◌⊎◌, inl, inr, Result, Ok, Err, refl, sym, ap, ◌∙◌, subst, arith, append_assoc}
 use Rattle.plain_filters.specs.declared.Expr.{Expr}
 use Rattle.plain_filters.specs.Filters.{FilterTree, tree_of}
 use Rattle.filter_expr.specs.declared.tokens.Token.{Token}
@@ -8,121 +7,56 @@ use Rattle.filter_expr.specs.declared.tokens.Token.TheVariants as token
 use Rattle.filter_expr.specs.declared.tokens.PlacedToken.{PlacedToken}
 use Rattle.filter_expr.specs.declared.faults.FilterFault.{FilterFault}
 use Rattle.filter_expr.specs.declared.faults.FilterFault.TheVariants.{Bad, NumberRange, TooDeep, NoMemory}
-use Rattle.filter_expr.specs.Trees.{Tree, bare, nesting, InRange}
-use Rattle.filter_expr.specs.inner.TreeGrammar.{Stands}
-use Rattle.filter_expr.specs.Seen.{seen, shape}
 use Rattle.filter_expr.specs.Spelling.{TokensOf}
 use Rattle.filter_expr.specs.Lexing.{tokens_from}
-use Rattle.filter_expr.specs.Reading.{whole_filter}
-use Rattle.filter_expr.specs.Spelled.{Spelled}
-use Rattle.filter_expr.specs.Filters.{tokens, AreFilter, CanGoOn, FaultsAt, FilterOf, FaultOf, MayAnswer, AnswersTree, AnswersFault, OneTree, OneFilter, NotBoth, OneFault}
-use Rattle.filter_expr.specs.FilterTexts.{back}
-use Rattle.filter_expr.specs.inner.ByTrees.{IsText, IsFilter, IsFault, Begins, GoesOn, StandsAt, HasCause, may_open}
+use Rattle.filter_expr.specs.Reading.{Step, got, failed, whole_filter}
+use Rattle.filter_expr.specs.Filters.{tokens, CanGoOn, FaultsAt, FilterOf, FaultOf, MayAnswer, AnswersTree, AnswersFault, SomeTokenList, OneTokenList, SomeAnswer, OneFilter, NotBoth, OneFault}
+use Rattle.filter_expr.specs.FilterTexts.{verdict, filter_of, Says, SaysFilter, SaysFault, FilterSaid, FaultSaid}
 use Rattle.filter_expr.specs.inner.Gives.{Answers}
-use Rattle.filter_expr.proofs.Final.{IsAnswer}
-use Rattle.filter_expr.proofs.SeenLemmas.{HasParts, stands_parts, round, filter_round, shape_known}
-use Rattle.filter_expr.proofs.Only.{trees_same, filter_unique, Meet, meet, Refuses, one_token_list, lexed_answer}
-use Rattle.filter_expr.proofs.Tokenised.{lexed_tokens}
-use Rattle.filter_expr.proofs.Cuts.{Ended, ended, placed, placed_tokens}
-use Rattle.filter_expr.proofs.ToTrees.{Held, held}
-use Rattle.filter_expr.proofs.FromTrees.{views, filled, in_range, any_range, filled_range, Stay, stay_both, stay_first, stay_views, tree_stays}
-use Rattle.filter_expr.proofs.Rows.{wrong}
+use Rattle.filter_expr.proofs.Chains.{wrong}
+use Rattle.filter_expr.proofs.Forms.{head_same, tail_same, looser}
+use Rattle.filter_expr.proofs.Complete.{Fine, Is}
+use Rattle.filter_expr.proofs.Final.{tokens_both, whole_read, IsAnswer, right}
+use Rattle.filter_expr.proofs.Tokenised.{lexed_tokens, tokens_unique, tokens_stopped}
 
-tokens_both : (us vs : List PlacedToken) → tokens (us ++ vs) ≡ tokens us ++ tokens vs
-tokens_both us vs = map-append (λ (s : PlacedToken). s.token) us vs
+-- ---- tokens
 
--- ---- filters
+pub some_tokens : SomeTokenList
+some_tokens text = (tokens_from 0 0 text, lexed_tokens text)
 
-pub to_filter : (ts : List PlacedToken) (t : FilterTree) → AreFilter false 64 t (tokens ts) → IsFilter ts (shape t)
-to_filter ts t w =
-    let x : Ended ts w.0 = ended w.0 ts w.1 in
-    let h : Held false 0 64 t x.front = held w.2 x.front x.fronts in
-    record { tree = h.tree; stands = h.stands; text = (x.front, x.last, x.is, x.end, h.spelled); range = h.range refl; deep = h.deep; is = h.same refl }
+pub one_token_list : OneTokenList
+one_token_list text ts us a b = tokens_unique text ts a ∙ sym (tokens_unique text us b)
 
-pub from_filter : (ts : List PlacedToken) (t : FilterTree) → IsFilter ts (shape t) → AreFilter false 64 t (tokens ts)
-from_filter ts t a = (
-  tokens a.text.0,
-  ap (λ l. tokens l) a.text.2 ∙ tokens_both a.text.0 (a.text.1 ∷ []) ∙ ap (λ u. tokens a.text.0 ++ u ∷ []) a.text.3,
-  subst (λ x. Spelled false 0 64 x (tokens a.text.0)) (ap back a.is ∙ filter_round ts t a) (in_range a.tree 64 a.text.0 a.stands a.text.4 a.deep a.range),
-)
+-- ---- the reading of a text
 
--- ---- tokens with which a filter begins
+abbrev pub IsSaid : List ℕ → Step FilterTree → Type 0
+IsSaid text (got t rest) = FilterOf text t
+IsSaid text (failed f rest) = FaultOf text f
 
-begins_so : (wide : Bool) (d : ℕ) (us more : List Token) (t : FilterTree) → Spelled wide 0 d t (us ++ more) → CanGoOn wide d us
-begins_so wide d us more t p = (t, more ++ token.End ∷ [], (us ++ more, sym (append_assoc us more (token.End ∷ [])), p))
+pub said : (text : List ℕ) → IsSaid text (whole_filter (tokens_from 0 0 text))
+said text = by (whole_filter (tokens_from 0 0 text)) (right (tokens_from 0 0 text) (tokens_stopped (tokens_from 0 0 text) 0 text (lexed_tokens text)))
+  where
+    by : (r : Step FilterTree) → IsAnswer (tokens_from 0 0 text) r → IsSaid text r
+    by (got t rest) a = (tokens_from 0 0 text, lexed_tokens text, a)
+    by (failed f rest) a = (a.0, a.1, a.2, subst (TokensOf text) a.3 (lexed_tokens text), a.4, a.5)
 
-begins_on : (us : List PlacedToken) → Begins us → CanGoOn false 64 (tokens us)
-begins_on us b =
-    begins_so false 64 (tokens us) (tokens b.more) (back (bare b.tree))
-    (subst (Spelled false 0 64 (back (bare b.tree))) (tokens_both us b.more) (in_range b.tree 64 (us ++ b.more) b.stands b.spelled b.deep b.range))
+pub says_filter : SaysFilter
+unfolding filter_of
+says_filter text t b =
+    by (whole_filter (tokens_from 0 0 text)) (whole_read b.2.2 (tokens_from 0 0 text) (ap (λ l. tokens l) (sym (tokens_unique text b.0 b.1)) ∙ b.2.1))
+  where
+    by : (r : Step FilterTree) → Fine (Is t) false 64 64 (token.End ∷ []) r → verdict r ≡ Ok t
+    by (got x rest) h = ap Ok h.0
+    by (failed (Bad o) rest) h = absurd h
+    by (failed (NumberRange o) rest) h = absurd (wrong h)
+    by (failed (TooDeep o) rest) h = absurd (omega (arith, h))
+    by (failed NoMemory rest) h = absurd h
 
--- the tokens up to this one, this one among them
-up_to : (before : List PlacedToken) (here : PlacedToken) → tokens (before ++ here ∷ []) ≡ tokens before ++ here.token ∷ []
-up_to before here = tokens_both before (here ∷ [])
-
-goes_on : (before : List PlacedToken) (here : PlacedToken) (g : GoesOn (before ++ here ∷ [])) → CanGoOn true (nesting g.tree) (tokens before ++ here.token ∷ [])
-goes_on before here g =
-    begins_so true (nesting g.tree) (tokens before ++ here.token ∷ []) (tokens g.more) (back (bare g.tree))
-    (subst (Spelled true 0 (nesting g.tree) (back (bare g.tree))) (tokens_both (before ++ here ∷ []) g.more ∙ ap (λ l. l ++ tokens g.more) (up_to before here))
-    (any_range g.tree (nesting g.tree) ((before ++ here ∷ []) ++ g.more) g.stands g.spelled (omega arith)))
-
-opener_stays : (t : Token) → IsTrue (may_open t) → filled t ≡ t
-opener_stays token.Not h = refl
-opener_stays token.Minus h = refl
-opener_stays token.Open h = refl
-opener_stays _ h = absurd (wrong h)
-
--- with 0 in place of each number that is too great
-goes_on_filled : (before : List PlacedToken) (here : PlacedToken) → Begins before → IsTrue (may_open here.token) → (g : GoesOn (before ++ here ∷ [])) → CanGoOn false (nesting g.tree) (tokens before ++ here.token ∷ [])
-goes_on_filled before here b o g =
-    let stay : Stay (before ++ here ∷ []) = stay_both before (here ∷ []) (stay_first before b.more (tree_stays b.tree (before ++ b.more) b.range b.spelled)) (opener_stays here.token o, tt) in
-    begins_so false (nesting g.tree) (tokens before ++ here.token ∷ []) (views filled g.more) (back (bare g.tree))
-    (subst (Spelled false 0 (nesting g.tree) (back (bare g.tree)))
-    (map-append (λ (s : PlacedToken). filled s.token) (before ++ here ∷ []) g.more ∙ ap (λ l. l ++ views filled g.more) (stay_views (before ++ here ∷ []) stay ∙ up_to before here))
-    (filled_range g.tree (nesting g.tree) ((before ++ here ∷ []) ++ g.more) g.stands g.spelled (omega arith)))
-
--- a tree that goes on so
-record Going (wide : Bool) (d : ℕ) (before : List PlacedToken) (here : PlacedToken) : Type 0 where
-  tree : Tree
-  after : List PlacedToken
-  stands : Stands 0 tree
-  text : IsText tree (before ++ here ∷ after)
-  deep : nesting tree ≤ d
-  range : wide ≡ false → InRange tree
-
-going : (wide : Bool) (d : ℕ) (before : List PlacedToken) (here : PlacedToken) → CanGoOn wide d (tokens before ++ here.token ∷ []) → Going wide d before here
-going wide d before here c =
-    let after : List PlacedToken = map placed c.1 in
-    let same : tokens (before ++ here ∷ after) ≡ (tokens before ++ here.token ∷ []) ++ c.1 =
-    tokens_both before (here ∷ after) ∙ ap (λ l. tokens before ++ here.token ∷ l) (placed_tokens c.1) ∙ sym (append_assoc (tokens before) (here.token ∷ []) c.1) in
-    let x : Ended (before ++ here ∷ after) c.2.0 = ended c.2.0 (before ++ here ∷ after) (same ∙ c.2.1) in
-    let h : Held wide 0 d c.0 x.front = held c.2.2 x.front x.fronts in
-    record { tree = h.tree; after = after; stands = h.stands; text = (x.front, x.last, x.is, x.end, h.spelled); deep = h.deep; range = h.range }
-
--- ---- faults
-
-stops : (f : FilterFault) (before : List PlacedToken) (here : PlacedToken) → Begins before → StandsAt f here → HasCause f before here → Refuses f before here → FaultsAt f (tokens before ++ here.token ∷ []) here.offset
-stops (Bad o) before here b a c m = (a, λ d p. let g : Going true d before here = going true d before here p in m g.tree g.after g.stands g.text)
-stops (NumberRange o) before here b a c m =
-    (a, (nesting c.1.tree, goes_on before here c.1), λ d p. let g : Going false d before here = going false d before here p in m g.tree g.after g.stands g.text (g.range refl))
-stops (TooDeep o) before here b a c m = (
-  a,
-  (nesting c.1.tree, goes_on_filled before here b c.0 c.1),
-  λ p. let g : Going false 64 before here = going false 64 before here p in omega (arith, m g.tree g.after g.stands g.text, g.deep),
-)
-stops NoMemory before here b a c m = a
-
-pub from_fault : (text : List ℕ) (ts : List PlacedToken) (f : FilterFault) → TokensOf text ts → IsFault ts f → FaultOf text f
-from_fault text ts f toks a = (a.before, a.here, a.after, subst (TokensOf text) a.split toks, begins_on a.before a.begins, stops f a.before a.here a.begins a.place a.cause a.none)
-
--- ---- one answer
+-- ---- two faults
 
 -- where numbers may be too great no fewer filters go on so
 widened : (d : ℕ) (us : List Token) → CanGoOn false d us → CanGoOn true d us
-widened d us c =
-    let ps : List PlacedToken = map placed c.2.0 in
-    let h : Held false 0 d c.0 ps = held c.2.2 ps (placed_tokens c.2.0) in
-    (back (bare h.tree), c.1, (c.2.0, c.2.1, subst (Spelled true 0 d (back (bare h.tree))) (placed_tokens c.2.0) (any_range h.tree d ps h.stands h.spelled h.deep)))
+widened d us c = (c.0, c.1, (c.2.0, c.2.1, looser (λ x. refl) (omega arith) (omega arith) c.2.2))
 
 -- no filter within the limits goes on with a fault
 stopped : (f : FilterFault) (us : List Token) (at : ℕ) → FaultsAt f us at → CanGoOn false 64 us → ⊥
@@ -146,15 +80,32 @@ one_stop (Bad o) NoMemory us at a b = absurd b
 one_stop (NumberRange o) NoMemory us at a b = absurd b
 one_stop (TooDeep o) NoMemory us at a b = absurd b
 
-earlier : (us vs : List Token) → CanGoOn false 64 (us ++ vs) → CanGoOn false 64 us
-earlier us vs c = (c.0, vs ++ c.1, (c.2.0, sym (append_assoc us vs c.1) ∙ c.2.1, c.2.2))
+-- where two splits of one list meet
+abbrev Meet : List PlacedToken → List PlacedToken → PlacedToken → PlacedToken → Type 0
+Meet xs ys x y = ((xs ≡ ys) × (x ≡ y)) ⊎ (((m : List PlacedToken) × (ys ≡ xs ++ x ∷ m)) ⊎ ((m : List PlacedToken) × (xs ≡ ys ++ y ∷ m)))
+
+meet_more : (s : PlacedToken) (xs ys : List PlacedToken) (x y : PlacedToken) → Meet xs ys x y → Meet (s ∷ xs) (s ∷ ys) x y
+meet_more s xs ys x y (inl e) = inl (ap (λ l. s ∷ l) e.0, e.1)
+meet_more s xs ys x y (inr (inl e)) = inr (inl (e.0, ap (λ l. s ∷ l) e.1))
+meet_more s xs ys x y (inr (inr e)) = inr (inr (e.0, ap (λ l. s ∷ l) e.1))
+
+meet : (xs ys cs bs : List PlacedToken) (x y : PlacedToken) → xs ++ x ∷ cs ≡ ys ++ y ∷ bs → Meet xs ys x y
+meet [] [] cs bs x y e = inl (refl, head_same x y cs bs e)
+meet [] (t ∷ ys) cs bs x y e = inr (inl (ys, ap (λ s. s ∷ ys) (sym (head_same x t cs (ys ++ y ∷ bs) e))))
+meet (s ∷ xs) [] cs bs x y e = inr (inr (xs, ap (λ t. t ∷ xs) (head_same s y (xs ++ x ∷ cs) bs e)))
+meet (s ∷ xs) (t ∷ ys) cs bs x y e =
+    subst (λ z. Meet (s ∷ xs) (z ∷ ys) x y) (head_same s t (xs ++ x ∷ cs) (ys ++ y ∷ bs) e) (meet_more s xs ys x y (meet xs ys cs bs x y (tail_same s t (xs ++ x ∷ cs) (ys ++ y ∷ bs) e)))
 
 -- no filter within the limits goes on past a fault
 not_past : (f : FilterFault) (before m us : List PlacedToken) (here : PlacedToken) → us ≡ before ++ here ∷ m → FaultsAt f (tokens before ++ here.token ∷ []) here.offset → CanGoOn false 64 (tokens us) → ⊥
 not_past f before m us here e s c =
     stopped f (tokens before ++ here.token ∷ []) here.offset s
-    (earlier (tokens before ++ here.token ∷ []) (tokens m)
-    (subst (CanGoOn false 64) (ap (λ l. tokens l) e ∙ tokens_both before (here ∷ m) ∙ sym (append_assoc (tokens before) (here.token ∷ []) (tokens m))) c))
+    (earlier (subst (CanGoOn false 64) (ap (λ l. tokens l) e ∙ tokens_both before (here ∷ m) ∙ sym (append_assoc (tokens before) (here.token ∷ []) (tokens m))) c))
+  where
+    earlier : CanGoOn false 64 ((tokens before ++ here.token ∷ []) ++ tokens m) → CanGoOn false 64 (tokens before ++ here.token ∷ [])
+    earlier x = (x.0, tokens m ++ x.1, (x.2.0, sym (append_assoc (tokens before ++ here.token ∷ []) (tokens m) x.1) ∙ x.2.1, x.2.2))
+
+-- ---- one answer
 
 pub one_fault : OneFault
 one_fault text f g a b = by (meet a.0 b.0 a.2 b.2 a.1 b.1 (one_token_list text (a.0 ++ a.1 ∷ a.2) (b.0 ++ b.1 ∷ b.2) a.3 b.3))
@@ -172,34 +123,65 @@ not_both_of text t f a b =
     stopped f (tokens b.0 ++ b.1.token ∷ []) b.1.offset b.5
     (t, tokens b.2, (a.2.0, append_assoc (tokens b.0) (b.1.token ∷ []) (tokens b.2) ∙ sym (tokens_both b.0 (b.1 ∷ b.2)) ∙ same ∙ a.2.1, a.2.2))
 
+ok_same : (s t : FilterTree) → ◌≡◌ {A = Result FilterTree FilterFault} (Ok s) (Ok t) → s ≡ t
+ok_same s t q = cc
+
+err_same : (f g : FilterFault) → ◌≡◌ {A = Result FilterTree FilterFault} (Err f) (Err g) → f ≡ g
+err_same f g q = cc
+
 pub one_filter : OneFilter
-one_filter text s t a b =
-    let c : IsFilter b.0 (shape s) = subst (λ ts. IsFilter ts (shape s)) (one_token_list text a.0 b.0 a.1 b.1) (to_filter a.0 s a.2) in
-    let d : IsFilter b.0 (shape t) = to_filter b.0 t b.2 in
-    shape_known b.0 s t c d (filter_unique b.0 (shape s) (shape t) c d)
+one_filter text s t a b = ok_same s t (sym (says_filter text s a) ∙ says_filter text t b)
 
--- a filter is known by its tree with parentheses
-held_round : (d : ℕ) (t : FilterTree) (ps : List PlacedToken) (h : Held false 0 d t ps) → back (shape t) ≡ t
-held_round d t ps h = round t (subst HasParts (h.same refl) (stands_parts h.tree 0 h.stands))
+-- ---- what the function says
 
-pub one_tree : OneTree
-one_tree s t us c d p q =
-    let ps : List PlacedToken = map placed us in
-    let a : Held false 0 c s ps = held p ps (placed_tokens us) in
-    let b : Held false 0 d t ps = held q ps (placed_tokens us) in
-    sym (held_round c s ps a)
-    ∙ ap back (sym (a.same refl) ∙ trees_same a.tree b.tree ps a.stands b.stands a.spelled b.spelled (a.range refl) (b.range refl) ∙ b.same refl)
-    ∙ held_round d t ps b
+pub says_fault : SaysFault
+unfolding filter_of
+says_fault text f b = by (whole_filter (tokens_from 0 0 text)) (said text)
+  where
+    by : (r : Step FilterTree) → IsSaid text r → verdict r ≡ Err f
+    by (got t rest) a = absurd (not_both_of text t f a b)
+    by (failed g rest) a = ap Err (one_fault text g f a b)
+
+pub filter_said : FilterSaid
+unfolding filter_of
+filter_said text t q = by (whole_filter (tokens_from 0 0 text)) (said text) q
+  where
+    by : (r : Step FilterTree) → IsSaid text r → verdict r ≡ Ok t → FilterOf text t
+    by (got x rest) a e = subst (FilterOf text) (ok_same x t e) a
+    by (failed f rest) a e = absurd (cc)
+
+pub fault_said : FaultSaid
+unfolding filter_of
+fault_said text f q = by (whole_filter (tokens_from 0 0 text)) (said text) q
+  where
+    by : (r : Step FilterTree) → IsSaid text r → verdict r ≡ Err f → FaultOf text f
+    by (got x rest) a e = absurd (cc)
+    by (failed g rest) a e = subst (FaultOf text) (err_same g f e) a
+
+pub some_answer : SomeAnswer
+some_answer text = by (whole_filter (tokens_from 0 0 text)) (said text)
+  where
+    by : (r : Step FilterTree) → IsSaid text r → ((t : FilterTree) × FilterOf text t) ⊎ ((f : FilterFault) × FaultOf text f)
+    by (got t rest) a = inl (t, a)
+    by (failed f rest) a = inr (f, a)
 
 -- ---- answers
 
 -- the reading of the tokens is the answer
-pub may_answer : (text : List ℕ) (r : Result Expr FilterFault) → Answers seen r (whole_filter (tokens_from 0 0 text)) → MayAnswer text r
-may_answer text (Ok e) a = (tokens_from 0 0 text, lexed_tokens text, from_filter (tokens_from 0 0 text) (tree_of e) (subst (IsAnswer (tokens_from 0 0 text)) a.1 (lexed_answer text)))
-may_answer text (Err (Bad o)) a = from_fault text (tokens_from 0 0 text) (Bad o) (lexed_tokens text) (subst (IsAnswer (tokens_from 0 0 text)) a.1 (lexed_answer text))
-may_answer text (Err (NumberRange o)) a = from_fault text (tokens_from 0 0 text) (NumberRange o) (lexed_tokens text) (subst (IsAnswer (tokens_from 0 0 text)) a.1 (lexed_answer text))
-may_answer text (Err (TooDeep o)) a = from_fault text (tokens_from 0 0 text) (TooDeep o) (lexed_tokens text) (subst (IsAnswer (tokens_from 0 0 text)) a.1 (lexed_answer text))
+pub may_answer : (text : List ℕ) (r : Result Expr FilterFault) → Answers tree_of r (whole_filter (tokens_from 0 0 text)) → MayAnswer text r
+may_answer text (Ok e) a = subst (IsSaid text) a.1 (said text)
+may_answer text (Err (Bad o)) a = subst (IsSaid text) a.1 (said text)
+may_answer text (Err (NumberRange o)) a = subst (IsSaid text) a.1 (said text)
+may_answer text (Err (TooDeep o)) a = subst (IsSaid text) a.1 (said text)
 may_answer text (Err NoMemory) a = tt
+
+pub says : (text : List ℕ) (r : Result Expr FilterFault) → Answers tree_of r (whole_filter (tokens_from 0 0 text)) → Says (filter_of text) r
+unfolding filter_of
+says text (Ok e) a = ap verdict a.1
+says text (Err (Bad o)) a = ap verdict a.1
+says text (Err (NumberRange o)) a = ap verdict a.1
+says text (Err (TooDeep o)) a = ap verdict a.1
+says text (Err NoMemory) a = tt
 
 pub answers_tree : (text : List ℕ) (r : Result Expr FilterFault) → MayAnswer text r → (t : FilterTree) → FilterOf text t → AnswersTree t r
 answers_tree text (Ok d) a t b = one_filter text (tree_of d) t a b

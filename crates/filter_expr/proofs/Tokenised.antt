@@ -1,20 +1,22 @@
 -- The lexer's list is the one list of tokens that a text is.
 use Rattle.std.proofs.Common.{◌≡◌, ◌≢◌, ℕ, zero, suc, ◌+◌, ◌-◌, ◌≤◌, ◌==◌, Bool, true, false, ◌||◌, ◌&&◌, nat_le, if◌then◌else◌, List, [], ◌∷◌, ◌++◌, drop, take, length, ◌⊎◌, inl, inr, refl, sym, ap, ◌∙◌, subst, arith, add-zero}
 use Rattle.std.specs.List.{list_all}
-use Rattle.std.proofs.lemmas.Bool.{leb-true, eqb-true}
+use Rattle.std.proofs.lemmas.Bool.{leb-true}
 use Rattle.plain_filters.specs.declared.CompareSign.TheVariants as «compare»
 use Rattle.std.proofs.lemmas.List.{take-append-drop, length-take, length-drop}
 use Rattle.filter_expr.specs.declared.tokens.Token.{Token}
 use Rattle.filter_expr.specs.declared.tokens.Token.TheVariants as token
 use Rattle.filter_expr.specs.declared.tokens.PlacedToken.{PlacedToken}
-use Rattle.filter_expr.specs.Trees.{is_unknown}
+use Rattle.filter_expr.specs.Signs.{is_unknown}
 use Rattle.farm_base.specs.Digits.{is_digit}
-use Rattle.filter_expr.specs.Spelling.{is_blank, is_quote, IsDigits, begins_with, SpellsToken, StandsFirst, AreTokens, TokensOf}
+use Rattle.filter_expr.specs.Spelling.{is_blank, IsDigits, begins_with, SpellsToken, StandsFirst, AreTokens, TokensOf}
 use Rattle.filter_expr.specs.Lexing.{Taken, token_at, tokens_from}
-use Rattle.filter_expr.proofs.Spelled.{wrong, split_bool, token_complete, both_true, not_equal}
+use Rattle.filter_expr.proofs.Chains.{wrong}
+use Rattle.filter_expr.proofs.Spelled.{split_bool, quotes, token_complete, both_true, not_equal}
 use Rattle.filter_expr.proofs.Lexemes.{token_good}
-use Rattle.filter_expr.proofs.Lexes.{token_fits, lexed_skips, from_token, placed_then, unknown_is}
-use Rattle.filter_expr.proofs.Final.{Stopped, is_stop}
+use Rattle.filter_expr.proofs.Lexes.{lexed_skips, from_token, placed_then, unknown_is}
+use Rattle.filter_expr.specs.Filters.{tokens}
+use Rattle.filter_expr.proofs.Forms.{is_stop}
 
 -- ---- one step of the lexer, at any place
 
@@ -33,7 +35,7 @@ from_known : (at : ℕ) (b : ℕ) (bs : List ℕ) → is_unknown (token_at (b �
     from_token at b bs ≡ placed_then (token_at (b ∷ bs)).0 at (tokens_from (at + (token_at (b ∷ bs)).1) 0 (drop (token_at (b ∷ bs)).1 (b ∷ bs)))
 from_known at b bs e =
     ap (λ t. if t then placed_then token.Unknown at [] else placed_then (token_at (b ∷ bs)).0 at (tokens_from (suc at) ((token_at (b ∷ bs)).1 - 1) bs)) e
-    ∙ ap (placed_then (token_at (b ∷ bs)).0 at) (skipped (token_at (b ∷ bs)).1 (token_fits b bs).least (token_fits b bs).most)
+    ∙ ap (placed_then (token_at (b ∷ bs)).0 at) (skipped (token_at (b ∷ bs)).1 (token_good b bs).least (token_good b bs).most)
   where
     skipped : (n : ℕ) → 1 ≤ n → n ≤ length (b ∷ bs) → tokens_from (suc at) (n - 1) bs ≡ tokens_from (at + n) 0 (drop n (b ∷ bs))
     skipped zero l m = absurd (omega (arith, l))
@@ -87,12 +89,12 @@ tokens_of (suc m) at (b ∷ bs) h = by (split_bool (is_blank b)) (λ k l g. toke
         AreTokens at (b ∷ bs) (placed_then (token_at (b ∷ bs)).0 at (tokens_from (at + (token_at (b ∷ bs)).1) 0 (drop (token_at (b ∷ bs)).1 (b ∷ bs))))
     known ih u =
         let n : ℕ = (token_at (b ∷ bs)).1 in
-        let len : length (take n (b ∷ bs)) ≡ n = length-take n (b ∷ bs) ∙ omega (arith, (token_fits b bs).most) in
+        let len : length (take n (b ∷ bs)) ≡ n = length-take n (b ∷ bs) ∙ omega (arith, (token_good b bs).most) in
         at_once at (b ∷ bs) (take n (b ∷ bs)) (drop n (b ∷ bs)) (token_at (b ∷ bs)).0 (tokens_from (at + n) 0 (drop n (b ∷ bs))) (sym (take-append-drop n (b ∷ bs)))
         (inl (
           (token_good b bs).good u,
           subst (λ k. AreTokens (at + k) (drop n (b ∷ bs)) (tokens_from (at + n) 0 (drop n (b ∷ bs)))) (sym len)
-              (ih (at + n) (drop n (b ∷ bs)) (omega (arith, h, length-drop n (b ∷ bs), (token_fits b bs).least))),
+              (ih (at + n) (drop n (b ∷ bs)) (omega (arith, h, length-drop n (b ∷ bs), (token_good b bs).least))),
         ))
 
     solid : ((k : ℕ) (l : List ℕ) → length l ≤ m → AreTokens k l (tokens_from k 0 l)) → is_blank b ≡ false → (is_unknown (token_at (b ∷ bs)).0 ≡ true) ⊎ (is_unknown (token_at (b ∷ bs)).0 ≡ false) →
@@ -132,13 +134,6 @@ digits_solid (b ∷ us) d = (d.0, digit_solid b (both_true (is_digit b) (list_al
 solid_is : (b : ℕ) (w us : List ℕ) → us ≡ b ∷ w → is_blank b ≡ false → Solid us
 solid_is b w us e h = subst Solid (sym e) (some_bytes b w, h)
 
-quote_solid : (q : ℕ) → is_quote q ≡ true → is_blank q ≡ false
-quote_solid q h = by (split_bool (q == 39))
-  where
-    by : ((q == 39) ≡ true) ⊎ ((q == 39) ≡ false) → is_blank q ≡ false
-    by (inl e) = ap is_blank (eqb-true q 39 e)
-    by (inr e) = ap is_blank (eqb-true q 34 (sym (ap (λ b. b || q == 34) e) ∙ h))
-
 either_solid : (b c : ℕ) (v w us : List ℕ) → (us ≡ b ∷ v) ⊎ (us ≡ c ∷ w) → is_blank b ≡ false → is_blank c ≡ false → Solid us
 either_solid b c v w us (inl e) h g = solid_is b v us e h
 either_solid b c v w us (inr e) h g = solid_is c w us e g
@@ -146,7 +141,7 @@ either_solid b c v w us (inr e) h g = solid_is c w us e g
 -- a spelling has a first byte, and it is no blank
 pub first_solid : (t : Token) (us : List ℕ) → SpellsToken t us → Solid us
 first_solid (token.Name n) us s = solid_is 91 (n ++ 93 ∷ []) us s.0 refl
-first_solid (token.Quoted t) us s = solid_is s.0 (s.1 ++ s.0 ∷ []) us s.2 (quote_solid s.0 s.3)
+first_solid (token.Quoted t) us s = solid_is s.0 (s.1 ++ s.0 ∷ []) us s.2 (quotes (λ q. is_blank q ≡ false) refl refl s.0 s.3)
 first_solid (token.Number z) us s = digits_solid us s.0
 first_solid token.OutOfRange us s = digits_solid us s.0
 first_solid token.True us s = solid_is 116 _ us s refl
@@ -230,7 +225,15 @@ tokens_unique text ts h = tokens_are ts 0 text h
 
 -- ---- the last token ends the list, and no other does
 
-pub tokens_stopped : (ts : List PlacedToken) (at : ℕ) (bs : List ℕ) → AreTokens at bs ts → Stopped ts
+some_tokens : (t : PlacedToken) (ts : List PlacedToken) → t ∷ ts ≡ [] → ⊥
+some_tokens t ts e = cc
+
+abbrev pub Stopped : List Token → Type 0
+Stopped [] = ⊥
+Stopped (u ∷ []) = is_stop u ≡ true
+Stopped (u ∷ v ∷ us) = (is_stop u ≡ false) × Stopped (v ∷ us)
+
+pub tokens_stopped : (ts : List PlacedToken) (at : ℕ) (bs : List ℕ) → AreTokens at bs ts → Stopped (tokens ts)
 tokens_stopped [] at bs h = h
 tokens_stopped (s ∷ others) at bs h = by others h.6 (tokens_stopped others)
   where
@@ -244,18 +247,8 @@ tokens_stopped (s ∷ others) at bs h = by others h.6 (tokens_stopped others)
     last (inl r) = ap is_stop r.0
     last (inr r) = ap is_stop r.0
 
-    by : (ts : List PlacedToken) → Rest (at + length h.0) h.1 h.2 s ts → ((k : ℕ) (l : List ℕ) → AreTokens k l ts → Stopped ts) → Stopped (s ∷ ts)
+    by : (ts : List PlacedToken) → Rest (at + length h.0) h.1 h.2 s ts → ((k : ℕ) (l : List ℕ) → AreTokens k l ts → Stopped (tokens ts)) → Stopped (tokens (s ∷ ts))
     by [] (inl r) ih = absurd (ih (at + length h.0 + length h.1) h.2 r.1)
     by [] (inr r) ih = last r.2
     by (t ∷ ts) (inl r) ih = (known_goes s.token h.1 r.0.0, ih (at + length h.0 + length h.1) h.2 r.1)
-    by (t ∷ ts) (inr r) ih = absurd (no_more r.0)
-      where
-        no_more : (t ∷ ts) ≡ [] → ⊥
-        no_more e = wrong (sym (starts_some e))
-          where
-            some : List PlacedToken → Bool
-            some [] = false
-            some (x ∷ xs) = true
-
-            starts_some : (t ∷ ts) ≡ [] → true ≡ false
-            starts_some q = ap some q
+    by (t ∷ ts) (inr r) ih = absurd (some_tokens t ts r.0)

@@ -18,17 +18,21 @@ tokens ts = map (λ s. s.token) ts
 abbrev pub AreFilter : Bool → ℕ → FilterTree → List Token → Type 0
 AreFilter wide d t ts = (us : List Token) × (ts ≡ us ++ token.End ∷ []) × Spelled wide 0 d t us
 
--- some filter begins with these tokens: its numbers are in range, unless `wide`, and so many things are open at once at most
+-- some filter begins with these tokens: its numbers are in range, unless `wide`, and so many things
+-- are open at once at most
 abbrev pub CanGoOn : Bool → ℕ → List Token → Type 0
 CanGoOn wide d us = (t : FilterTree) × (more : List Token) × AreFilter wide d t (us ++ more)
 
--- The fault that the last of these tokens is, which stands at this place. Bad: no filter begins so, whatever its numbers
--- and its depth. NumberRange: one does, but none whose numbers are in range. TooDeep: one whose numbers are in range does,
--- but none in which no more than 64 things are open at once.
+-- The fault that the last of these tokens is, which stands at this place. Bad: no filter begins so,
+-- whatever its numbers and its depth. NumberRange: one does, but none whose numbers are in range.
+-- TooDeep: one whose numbers are in range does, but none in which no more than 64 things are open
+-- at once.
 abbrev pub FaultsAt : FilterFault → List Token → ℕ → Type 0
 FaultsAt (Bad o) us at = (o ≡ at) × ((d : ℕ) → ¬ (CanGoOn true d us))
-FaultsAt (NumberRange o) us at = (o ≡ at) × ((d : ℕ) × CanGoOn true d us) × ((d : ℕ) → ¬ (CanGoOn false d us))
-FaultsAt (TooDeep o) us at = (o ≡ at) × ((d : ℕ) × CanGoOn false d us) × (¬ (CanGoOn false 64 us))
+FaultsAt (NumberRange o) us at =
+    (o ≡ at) × ((d : ℕ) × CanGoOn true d us) × ((d : ℕ) → ¬ (CanGoOn false d us))
+FaultsAt (TooDeep o) us at =
+    (o ≡ at) × ((d : ℕ) × CanGoOn false d us) × (¬ (CanGoOn false 64 us))
 FaultsAt NoMemory us at = ⊥
 
 -- ---- texts
@@ -37,10 +41,12 @@ FaultsAt NoMemory us at = ⊥
 abbrev pub FilterOf : List ℕ → FilterTree → Type 0
 FilterOf text t = (ts : List PlacedToken) × TokensOf text ts × AreFilter false 64 t (tokens ts)
 
--- the text begins as a filter within the limits does, and the token behind that beginning is this fault
+-- the text begins as a filter within the limits does, and the token behind that beginning is this
+-- fault
 abbrev pub FaultOf : List ℕ → FilterFault → Type 0
 FaultOf text f =
-    (before : List PlacedToken) × (here : PlacedToken) × (after : List PlacedToken) × TokensOf text (before ++ here ∷ after)
+    (before : List PlacedToken) × (here : PlacedToken) × (after : List PlacedToken)
+    × TokensOf text (before ++ here ∷ after)
     × CanGoOn false 64 (tokens before) × FaultsAt f (tokens before ++ here.token ∷ []) here.offset
 
 -- ---- answers
@@ -73,11 +79,14 @@ AnswersFault f (Err NoMemory) = Unit {0}
 
 -- tokens spell one filter at most, where no number is too great
 abbrev pub OneTree : Type 0
-OneTree = (s t : FilterTree) (us : List Token) (c d : ℕ) → Spelled false 0 c s us → Spelled false 0 d t us → s ≡ t
+OneTree =
+    (s t : FilterTree) (us : List Token) (c d : ℕ)
+    → Spelled false 0 c s us → Spelled false 0 d t us → s ≡ t
 
 -- a text has a tree, or a fault
 abbrev pub SomeAnswer : Type 0
-SomeAnswer = (text : List ℕ) → ((t : FilterTree) × FilterOf text t) ⊎ ((f : FilterFault) × FaultOf text f)
+SomeAnswer =
+    (text : List ℕ) → ((t : FilterTree) × FilterOf text t) ⊎ ((f : FilterFault) × FaultOf text f)
 
 -- a text has one tree at most
 abbrev pub OneFilter : Type 0
@@ -97,4 +106,5 @@ SomeTokenList = (text : List ℕ) → (ts : List PlacedToken) × TokensOf text t
 
 -- a text has one list of tokens at most
 abbrev pub OneTokenList : Type 0
-OneTokenList = (text : List ℕ) (ts us : List PlacedToken) → TokensOf text ts → TokensOf text us → ts ≡ us
+OneTokenList =
+    (text : List ℕ) (ts us : List PlacedToken) → TokensOf text ts → TokensOf text us → ts ≡ us

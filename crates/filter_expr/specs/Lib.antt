@@ -1,10 +1,8 @@
 pub mod FilterTexts
 pub mod Filters
-pub mod Grammar
 pub mod Lexing
 pub mod Reading
-pub mod Seen
+pub mod Signs
 pub mod Spelled
 pub mod Spelling
-pub mod Trees
 pub mod inner

@@ -44,8 +44,8 @@ IsDigits us = (us ≢ []) × IsTrue (list_all is_digit us)
 abbrev pub digits_number : List ℕ → ℕ
 digits_number = number_after 0
 
--- how a text is written between quotes of this kind: a backslash stands before each quote or backslash
--- that is escaped, and a quote of the other kind may stand by itself
+-- how a text is written between quotes of this kind: a backslash stands before each quote or
+-- backslash that is escaped, and a quote of the other kind may stand by itself
 abbrev pub IsQuoting : ℕ → List ℕ → List ℕ → Type 0
 IsQuoting q [] us = us ≡ []
 IsQuoting q (c ∷ cs) us =
@@ -54,9 +54,12 @@ IsQuoting q (c ∷ cs) us =
 
 -- the bytes spell the token
 abbrev pub SpellsToken : Token → List ℕ → Type 0
-SpellsToken (token.Name n) us = (us ≡ 91 ∷ (n ++ 93 ∷ [])) × (n ≢ []) × IsTrue (list_all is_attribute_byte n)
-SpellsToken (token.Quoted t) us = (q : ℕ) × (vs : List ℕ) × (us ≡ q ∷ (vs ++ q ∷ [])) × IsTrue (is_quote q) × IsQuoting q t vs
-SpellsToken (token.Number z) us = IsDigits us × (z ≡ pos (digits_number us)) × (digits_number us < 2 ^ 63)
+SpellsToken (token.Name n) us =
+    (us ≡ 91 ∷ (n ++ 93 ∷ [])) × (n ≢ []) × IsTrue (list_all is_attribute_byte n)
+SpellsToken (token.Quoted t) us =
+    (q : ℕ) × (vs : List ℕ) × (us ≡ q ∷ (vs ++ q ∷ [])) × IsTrue (is_quote q) × IsQuoting q t vs
+SpellsToken (token.Number z) us =
+    IsDigits us × (z ≡ pos (digits_number us)) × (digits_number us < 2 ^ 63)
 SpellsToken token.OutOfRange us = IsDigits us × (2 ^ 63 ≤ digits_number us)
 SpellsToken token.True us = us ≡ codes "true"
 SpellsToken token.False us = us ≡ codes "false"
@@ -84,16 +87,18 @@ SpellsToken token.Unknown us = ⊥
 
 -- all signs of filters, as they are spelled
 abbrev pub signs : List (List ℕ)
-signs = codes "=" ∷ codes "!=" ∷ codes "<>" ∷ codes "<" ∷ codes "<=" ∷ codes ">" ∷ codes ">=" ∷ codes "&&" ∷ codes "||"
-    ∷ codes "!" ∷ codes "+" ∷ codes "-" ∷ codes "*" ∷ codes "/" ∷ codes "%" ∷ codes "(" ∷ codes ")" ∷ []
+signs =
+    codes "=" ∷ codes "!=" ∷ codes "<>" ∷ codes "<" ∷ codes "<=" ∷ codes ">" ∷ codes ">="
+    ∷ codes "&&" ∷ codes "||" ∷ codes "!" ∷ codes "+" ∷ codes "-" ∷ codes "*" ∷ codes "/"
+    ∷ codes "%" ∷ codes "(" ∷ codes ")" ∷ []
 
 -- there is a first byte, and it passes the test
 abbrev pub begins_with : (ℕ → Bool) → List ℕ → Bool
 begins_with test [] = false
 begins_with test (b ∷ bs) = test b
 
--- with the byte b after it the spelling would be a longer one: a digit after a number, a letter, digit or
--- `_` after a word, and after a sign a byte that makes it another sign
+-- with the byte b after it the spelling would be a longer one: a digit after a number, a letter,
+-- digit or `_` after a word, and after a sign a byte that makes it another sign
 abbrev pub lengthens : List ℕ → ℕ → Bool
 lengthens us b =
     if begins_with is_digit us then is_digit b
@@ -111,12 +116,13 @@ StandsFirst t us more = SpellsToken t us × EndsBefore us more
 
 -- ---- the tokens of a text
 
--- the bytes, which begin at this place of the text, are these tokens with blanks before, between and behind
--- them, up to the end or to bytes at which no token stands
+-- the bytes, which begin at this place of the text, are these tokens with blanks before, between
+-- and behind them, up to the end or to bytes at which no token stands
 abbrev pub AreTokens : ℕ → List ℕ → List PlacedToken → Type 0
 AreTokens at bytes [] = ⊥
 AreTokens at bytes (s ∷ others) =
-    (gap : List ℕ) × (us : List ℕ) × (more : List ℕ) × (bytes ≡ gap ++ (us ++ more)) × IsTrue (list_all is_blank gap) × (s.offset ≡ at + length gap)
+    (gap : List ℕ) × (us : List ℕ) × (more : List ℕ) × (bytes ≡ gap ++ (us ++ more))
+    × IsTrue (list_all is_blank gap) × (s.offset ≡ at + length gap)
     × ((StandsFirst s.token us more × AreTokens (at + length gap + length us) more others)
     ⊎ ((others ≡ []) × (us ≡ [])
     × (((s.token ≡ token.End) × (more ≡ []))

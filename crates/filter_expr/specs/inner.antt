@@ -1,8 +1,6 @@
-pub mod ByTrees
 pub mod Connectives
 pub mod Gives
 pub mod Kinds
 pub mod Parts
-pub mod SeenParts
+pub mod Runs
 pub mod Shown
-pub mod TreeGrammar

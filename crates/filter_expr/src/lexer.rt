@@ -4,7 +4,8 @@ ghost use Rattle.std.specs.List.{prefix_len};
 ghost use Rattle.std.specs.Str.{IsCharBoundary};
 ghost use Rattle.farm_base.specs.Digits.{is_digit};
 ghost use Rattle.filter_expr.specs.Spelling.{is_blank, is_letter, is_quote, is_escaped};
-ghost use Rattle.filter_expr.specs.Lexing.{run_test, number_token, number_token_at, word_token, word_at, name_token_at, quoting_len, quoted_text, quoted_at, sign_at, less_at, single, token_at, tokens_from};
+ghost use Rattle.filter_expr.specs.inner.Runs.{run_test};
+ghost use Rattle.filter_expr.specs.Lexing.{number_token, number_token_at, word_token, word_at, name_token_at, quoting_len, quoted_text, quoted_at, sign_at, less_at, single, token_at, tokens_from};
 
 use crate::tokens::{PlacedToken, Token, TokenKind, TokenStream};
 use farm_base::{NoMemory, Text};
@@ -216,7 +217,8 @@ fn quoted_at(alloc: Global, quote: u8, rest: &str) -> Result<(Token, usize), NoM
 #[tactic(auto, using(crate::proofs::Lexes::further_none, crate::proofs::Lexes::quoting_escaped, crate::proofs::Lexes::quoting_unknown, crate::proofs::Lexes::quoting_closed, crate::proofs::Lexes::quoting_next, crate::proofs::Lexes::quoting_end))]
 fn quoting_len(quote: u8, bytes: &[u8]) -> Option<usize>
     ensures len { result ≡ quoting_len quote false bytes.now }
-    ensures closed { IfSome result (λ n. (n < length bytes.now) × (slice_index bytes.now n ≡ quote)) }
+    ensures closed { IfSome result
+        (λ n. (n < length bytes.now) × (slice_index bytes.now n ≡ quote)) }
 {
     let mut escaped = false;
     for (i, b) in bytes.iter().enumerate() {
@@ -257,7 +259,8 @@ fn unescaped(alloc: Global, content: &str) -> Result<String, NoMemory>
 
 #[tactic(auto, using(crate::proofs::Lexes::escape_next, crate::proofs::Lexes::escape_other, crate::proofs::Lexes::escape_cut, crate::proofs::Lexes::escape_no_cut))]
 fn escaped_len(text: &str) -> usize
-    ensures parts { take result text.now ++ quoted_text false (drop result text.now) ≡ quoted_text true text.now }
+    ensures parts { take result text.now ++ quoted_text false (drop result text.now)
+        ≡ quoted_text true text.now }
     ensures cut { IsCharBoundary text.now result }
 {
     if byte_at(text.as_bytes(), 0) == b'\\' {

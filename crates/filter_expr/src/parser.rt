@@ -2,9 +2,8 @@
 //! weakest binding to the strongest. Binding strengths are this farm's own.
 ghost use Rattle.std.specs.Prelude.{◌≡◌, ◌≤◌, length, map};
 ghost use Rattle.plain_filters.specs.Filters.{tree_of, trees_of};
-ghost use Rattle.filter_expr.specs.Seen.{seen, joined};
 ghost use Rattle.filter_expr.specs.Reading.{not_in, compare_in, sum_in, product_in, unary_in, atom_in, within_depth};
-ghost use Rattle.filter_expr.specs.inner.Connectives.{connective_kind, connective_sign, chain_kind, chain_in, part_in};
+ghost use Rattle.filter_expr.specs.inner.Connectives.{connective_kind, connected, chain_in, part_in};
 ghost use Rattle.filter_expr.specs.inner.Gives.{Gives};
 
 use crate::faults::FilterFault;
@@ -30,7 +29,7 @@ impl Connective {
     }
 
     fn join(self, parts: Vec<Expr>) -> Expr
-        ensures { seen result ≡ joined (chain_kind self) (connective_sign self) (trees_of (map tree_of parts.items)) }
+        ensures { tree_of result ≡ connected self (trees_of (map tree_of parts.items)) }
     {
         match self {
             Connective::Or => Expr::Or(parts),
@@ -47,7 +46,8 @@ pub fn chain(
     depth_left: u32,
     connective: Connective,
 ) -> Result<Expr, FilterFault>
-    ensures read { Gives seen result stream.new (chain_in connective (within_depth depth_left) stream.old) }
+    ensures read { Gives tree_of result stream.new
+        (chain_in connective (within_depth depth_left) stream.old) }
     ensures left { length stream.new ≤ length stream.old }
 {
     let first = chain_part(alloc, stream, depth_left, connective)?;
@@ -71,7 +71,8 @@ fn chain_part(
     depth_left: u32,
     connective: Connective,
 ) -> Result<Expr, FilterFault>
-    ensures read { Gives seen result stream.new (part_in connective (within_depth depth_left) stream.old) }
+    ensures read { Gives tree_of result stream.new
+        (part_in connective (within_depth depth_left) stream.old) }
     ensures left { length stream.new ≤ length stream.old }
 {
     match connective {
@@ -81,9 +82,9 @@ fn chain_part(
 }
 
 #[cycle(parser)]
-#[tactic(auto, using(crate::proofs::SeenLemmas::nodes), unfolding(crate::specs::Reading::not_in, crate::specs::Reading::within_depth))]
+#[tactic(auto, using(crate::proofs::Nodes::trees), unfolding(crate::specs::Reading::not_in, crate::specs::Reading::within_depth))]
 fn not_part(alloc: Global, stream: &mut TokenStream, depth_left: u32) -> Result<Expr, FilterFault>
-    ensures read { Gives seen result stream.new (not_in (within_depth depth_left) stream.old) }
+    ensures read { Gives tree_of result stream.new (not_in (within_depth depth_left) stream.old) }
     ensures left { length stream.new ≤ length stream.old }
 {
     if !stream.next_is(TokenKind::Not) {
@@ -99,9 +100,10 @@ fn not_part(alloc: Global, stream: &mut TokenStream, depth_left: u32) -> Result<
 
 // A sum, then at most one comparing sign and a sum.
 #[cycle(parser)]
-#[tactic(auto, using(crate::proofs::SeenLemmas::nodes), unfolding(crate::specs::Reading::compare_in))]
+#[tactic(auto, using(crate::proofs::Nodes::trees), unfolding(crate::specs::Reading::compare_in))]
 fn comparison(alloc: Global, stream: &mut TokenStream, depth_left: u32) -> Result<Expr, FilterFault>
-    ensures read { Gives seen result stream.new (compare_in (within_depth depth_left) stream.old) }
+    ensures read { Gives tree_of result stream.new
+        (compare_in (within_depth depth_left) stream.old) }
     ensures left { length stream.new ≤ length stream.old }
 {
     let a = sum(alloc, stream, depth_left)?;
@@ -117,7 +119,7 @@ fn comparison(alloc: Global, stream: &mut TokenStream, depth_left: u32) -> Resul
 #[cycle(parser)]
 #[tactic(auto, unfolding(crate::specs::Reading::sum_in))]
 fn sum(alloc: Global, stream: &mut TokenStream, depth_left: u32) -> Result<Expr, FilterFault>
-    ensures read { Gives seen result stream.new (sum_in (within_depth depth_left) stream.old) }
+    ensures read { Gives tree_of result stream.new (sum_in (within_depth depth_left) stream.old) }
     ensures left { length stream.new ≤ length stream.old }
 {
     let first = product(alloc, stream, depth_left)?;
@@ -137,7 +139,8 @@ fn sum(alloc: Global, stream: &mut TokenStream, depth_left: u32) -> Result<Expr,
 #[cycle(parser)]
 #[tactic(auto, unfolding(crate::specs::Reading::product_in))]
 fn product(alloc: Global, stream: &mut TokenStream, depth_left: u32) -> Result<Expr, FilterFault>
-    ensures read { Gives seen result stream.new (product_in (within_depth depth_left) stream.old) }
+    ensures read { Gives tree_of result stream.new
+        (product_in (within_depth depth_left) stream.old) }
     ensures left { length stream.new ≤ length stream.old }
 {
     let first = unary(alloc, stream, depth_left)?;
@@ -155,9 +158,9 @@ fn product(alloc: Global, stream: &mut TokenStream, depth_left: u32) -> Result<E
 }
 
 #[cycle(parser)]
-#[tactic(auto, using(crate::proofs::SeenLemmas::nodes), unfolding(crate::specs::Reading::unary_in, crate::specs::Reading::within_depth))]
+#[tactic(auto, using(crate::proofs::Nodes::trees), unfolding(crate::specs::Reading::unary_in, crate::specs::Reading::within_depth))]
 fn unary(alloc: Global, stream: &mut TokenStream, depth_left: u32) -> Result<Expr, FilterFault>
-    ensures read { Gives seen result stream.new (unary_in (within_depth depth_left) stream.old) }
+    ensures read { Gives tree_of result stream.new (unary_in (within_depth depth_left) stream.old) }
     ensures left { length stream.new ≤ length stream.old }
 {
     if !stream.next_is(TokenKind::Minus) {
@@ -174,7 +177,7 @@ fn unary(alloc: Global, stream: &mut TokenStream, depth_left: u32) -> Result<Exp
 #[cycle(parser)]
 #[tactic(auto, unfolding(crate::specs::Reading::atom_in, crate::specs::Reading::within_depth))]
 fn atom(alloc: Global, stream: &mut TokenStream, depth_left: u32) -> Result<Expr, FilterFault>
-    ensures read { Gives seen result stream.new (atom_in (within_depth depth_left) stream.old) }
+    ensures read { Gives tree_of result stream.new (atom_in (within_depth depth_left) stream.old) }
     ensures left { length stream.new ≤ length stream.old }
 {
     if stream.next_is(TokenKind::Leaf) {

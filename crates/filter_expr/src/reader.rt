@@ -1,12 +1,11 @@
 //! Reads a filter text.
-ghost use Rattle.filter_expr.specs.Seen.{seen};
 ghost use Rattle.filter_expr.specs.Lexing.{tokens_from};
 ghost use Rattle.filter_expr.specs.Reading.{whole_filter};
 ghost use Rattle.filter_expr.specs.inner.Gives.{Answers};
 ghost use Rattle.filter_expr.specs.Filters.{FilterOf, FaultOf, MayAnswer, AnswersTree, AnswersFault, OneTree, SomeAnswer, OneFilter, NotBoth, OneFault, SomeTokenList, OneTokenList};
 ghost use Rattle.filter_expr.specs.FilterTexts.{filter_of, Says, SaysFilter, SaysFault, FilterSaid, FaultSaid};
 ghost use Rattle.filter_expr.specs.declared.faults.FilterFault.{FilterFault};
-ghost use Rattle.plain_filters.specs.Filters.{FilterTree};
+ghost use Rattle.plain_filters.specs.Filters.{FilterTree, tree_of};
 
 use crate::faults::FilterFault;
 use crate::lexer::tokens;
@@ -38,7 +37,7 @@ pub fn parse(alloc: Global, text: &str) -> Result<Expr, FilterFault>
 
 #[tactic(auto, unfolding(crate::specs::Reading::whole_filter))]
 fn read(alloc: Global, text: &str) -> Result<Expr, FilterFault>
-    ensures { Answers seen result (whole_filter (tokens_from 0 0 text.now)) }
+    ensures { Answers tree_of result (whole_filter (tokens_from 0 0 text.now)) }
 {
     let mut stream = tokens(alloc, text)?;
     let filter = chain(alloc, &mut stream, DEPTH, Connective::Or)?;

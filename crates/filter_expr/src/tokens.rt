@@ -1,9 +1,11 @@
 //! Tokens of filter texts, and the list of them that is still to be read.
 ghost use Rattle.std.specs.Prelude.{◌≡◌, drop, option_map, IsTrue};
-ghost use Rattle.filter_expr.specs.Trees.{leaf, sum_token, product_token, compare_token, sum_chain, product_chain, is_leaf};
-ghost use Rattle.filter_expr.specs.inner.Kinds.{is_of};
-ghost use Rattle.filter_expr.specs.Seen.{seen};
-ghost use Rattle.filter_expr.specs.Reading.{starts, first_token, place, next_sign, next_compare};
+ghost use Rattle.plain_filters.specs.Filters.{tree_of};
+ghost use Rattle.filter_expr.specs.declared.tokens.Token.TheVariants as token;
+ghost use Rattle.filter_expr.specs.Spelled.{sum_token, product_token};
+ghost use Rattle.filter_expr.specs.Signs.{sum_chain, product_chain, is_leaf};
+ghost use Rattle.filter_expr.specs.inner.Kinds.{is_of, next_sign, next_compare};
+ghost use Rattle.filter_expr.specs.Reading.{leaf_tree, starts, first_token, place};
 
 use farm_base::Text;
 use plain_filters::{CompareSign, Expr, ProductSign, SumSign};
@@ -95,7 +97,7 @@ impl TokenStream {
 
     /// The next token as a comparing sign, if it is one.
     pub fn compare_sign(&self) -> Option<CompareSign>
-        ensures { option_map compare_token result ≡ next_compare self.now }
+        ensures { option_map token.Compare result ≡ next_compare self.now }
     {
         match self.left.front() {
             Some(placed) => match placed.token {
@@ -155,7 +157,7 @@ impl TokenStream {
     /// Takes the next token, which is a filter by itself, as that filter.
     pub fn take_leaf(&mut self) -> Expr
         requires { IsTrue (starts is_leaf self.old) }
-        ensures value { seen result ≡ leaf (first_token self.old) }
+        ensures value { tree_of result ≡ leaf_tree (first_token self.old) }
         ensures rest { self.new ≡ drop 1 self.old }
     {
         match self.left.pop_front() {
@@ -198,10 +200,10 @@ impl Token {
     }
 }
 
-#[tactic(auto, using(crate::proofs::SeenLemmas::nodes))]
+#[tactic(auto, using(crate::proofs::Nodes::trees))]
 fn leaf_of(token: Token) -> Expr
     requires { IsTrue (is_leaf token) }
-    ensures { seen result ≡ leaf token }
+    ensures { tree_of result ≡ leaf_tree token }
 {
     match token {
         Token::Name(name) => Expr::Name(name),

@@ -80,7 +80,8 @@ fn after_products<'a>(
     parts: &'a [ProductPart],
     attrs: &'a [Attr],
 ) -> ValueRef<'a>
-    ensures { plain result ≡ product_value (plain first.entry) (map (product_part attrs.now) parts.now) }
+    ensures { plain result
+        ≡ product_value (plain first.entry) (map (product_part attrs.now) parts.now) }
 {
     let mut v = first;
     for later in parts {

@@ -1,5 +1,5 @@
 -- A filter that was written is read as that filter again.
-use Rattle.std.proofs.Common.{◌≡◌, ◌≢◌, ℕ, ◌+◌, ◌-◌, ◌*◌, ◌/◌, ◌%◌, ◌^◌, ◌≤◌, ◌<◌, ◌==◌, Bool, true, false, ◌||◌, ◌&&◌, nat_lt, nat_le, if◌then◌else◌, IsTrue, pos, List, [], ◌∷◌, ◌++◌, length, map, ◌⊎◌, inl, inr, refl, sym, ap, ◌∙◌, subst, arith, append_assoc, add-zero, zero-add}
+use Rattle.std.proofs.Common.{◌≡◌, ◌≢◌, ℕ, suc, ◌+◌, ◌-◌, ◌*◌, ◌/◌, ◌%◌, ◌^◌, ◌≤◌, ◌<◌, ◌==◌, Bool, true, false, ◌||◌, ◌&&◌, nat_lt, nat_le, if◌then◌else◌, IsTrue, pos, List, [], ◌∷◌, ◌++◌, length, ◌⊎◌, inl, inr, refl, sym, ap, ◌∙◌, subst, arith, append_assoc, add-zero, zero-add}
 use Rattle.std.specs.List.{list_all}
 use Rattle.std.specs.Fmt.{signed_decimal, decimal}
 use Rattle.std.proofs.lemmas.Bool.{ltb-false, le-ltb, eq-eqb, le-leb}
@@ -7,143 +7,80 @@ use Rattle.std.proofs.lemmas.List.{append-nil, length-append}
 use Rattle.std.proofs.lemmas.Fmt.{decimal_by_steps}
 use Rattle.plain_filters.specs.declared.CompareSign.{CompareSign}
 use Rattle.plain_filters.specs.declared.CompareSign.TheVariants as «compare»
-use Rattle.plain_filters.specs.Filters.{tree_of}
+use Rattle.plain_filters.specs.declared.SumSign.{SumSign}
+use Rattle.plain_filters.specs.declared.SumSign.TheVariants as sum
+use Rattle.plain_filters.specs.declared.ProductSign.{ProductSign}
+use Rattle.plain_filters.specs.declared.ProductSign.TheVariants as product
+use Rattle.plain_filters.specs.Filters.{FilterTree, FilterTrees, SumTrees, ProductTrees, tree_of}
 use Rattle.filter_expr.specs.declared.tokens.Token.{Token}
 use Rattle.filter_expr.specs.declared.tokens.Token.TheVariants as token
 use Rattle.filter_expr.specs.declared.tokens.PlacedToken.{PlacedToken}
-use Rattle.filter_expr.specs.Trees.{Kind, Tree, Terms, leaf, negation, negative, comparison, chain, parens, no_terms, term, or_chain, and_chain, sum_chain, product_chain, joins, sign_token, is_leaf, bare, bare_terms, nesting, nesting_terms, InRange, TermsInRange}
-use Rattle.filter_expr.specs.Seen.{shape}
+use Rattle.filter_expr.specs.Signs.{is_leaf}
 use Rattle.farm_base.specs.Digits.{is_digit, number_after}
 use Rattle.filter_expr.specs.Spelling.{IsDigits, digits_number, IsQuoting, SpellsToken, begins_with, EndsBefore, AreTokens, TokensOf}
-use Rattle.filter_expr.specs.Grammar.{kind_strength, strength}
-use Rattle.filter_expr.specs.inner.TreeGrammar.{IsSpelled, AreSpelled, IsMany, Stands, StandTerms}
-use Rattle.filter_expr.specs.Filters.{FilterOf}
-use Rattle.filter_expr.specs.inner.ByTrees.{IsFilter}
-use Rattle.filter_texts.specs.Written.{escaped_text, spelling, parens_below, shown, shown_terms, tokens_in, tokens_of_terms, put_tokens, filter_text, ReadsAgain, AnswersAgain, IsKnownByText}
-use Rattle.filter_expr.proofs.Complete.{stands_down}
-use Rattle.filter_expr.proofs.Spelled.{wrong, split_bool, end_digits, both_true}
+use Rattle.filter_expr.specs.Spelled.{Spelled, Parts, Sums, Products, or_form, and_form, not_form, compare_form, sum_form, product_form, negate_form, parens_form, name_form, text_form, number_form, out_of_range_form, true_form, false_form, null_form, parts_end, parts_then, sums_end, sums_then, products_end, products_then, sum_token, product_token}
+use Rattle.filter_expr.specs.Filters.{tokens, FilterOf}
+use Rattle.filter_texts.specs.Written.{escaped_text, spelling, strength, in_place, tokens_in, later_tokens, sum_tokens, product_tokens, put_tokens, filter_text, ReadsAgain, AnswersAgain, IsKnownByText}
+use Rattle.filter_expr.proofs.Forms.{head_same, tail_same, looser}
+use Rattle.filter_expr.proofs.Chains.{wrong}
+use Rattle.filter_expr.proofs.Spelled.{split_bool, end_digits, both_true}
 use Rattle.filter_expr.proofs.Lexemes.{bracket_ends, quote_ends}
 use Rattle.filter_expr.proofs.Tokenised.{first_solid, Rest}
-use Rattle.filter_expr.proofs.Texts.{to_filter, from_filter, answers_tree, one_filter}
-use Rattle.filter_expr.proofs.Rows.{strength_below, or_signs, and_signs, sum_signs, product_signs}
+use Rattle.filter_expr.proofs.Final.{tokens_both}
+use Rattle.filter_expr.proofs.Texts.{answers_tree, one_filter}
 
--- ---- the tree with its parentheses
+-- ---- what is written spells the filter
 
-bare_guarded : (l : ℕ) (e : Tree) → bare (parens_below l e) ≡ bare e
-bare_guarded l e = by (nat_lt (strength e) l)
+-- with its own strength the filter is spelled by what is written of it; where it binds too weakly for its place there is room for parentheses
+abbrev Writes : Bool → ℕ → ℕ → FilterTree → Type 0
+Writes w l d t =
+    ((l ≤ strength t) × Spelled w (strength t) d t (tokens_in t)) ⊎ ((c : ℕ) × (suc c ≤ d) × Spelled w (strength t) c t (tokens_in t))
+
+in_parens : {w : Bool} (l d c : ℕ) (t : FilterTree) → suc c ≤ d → Spelled w (strength t) c t (tokens_in t) → Spelled w l d t (token.Open ∷ (tokens_in t ++ token.Close ∷ []))
+in_parens l d c t h p = looser {l = l} (λ x. x) (omega arith) h (parens_form (looser (λ x. x) (omega arith) (omega arith) p))
+
+placed : {w : Bool} {l d : ℕ} {t : FilterTree} → Writes w l d t → Spelled w l d t (in_place l t (tokens_in t))
+placed {w = w} {l = l} {d = d} {t = t} a = by (nat_lt (strength t) l) refl a
   where
-    by : (b : Bool) → bare (if b then parens e else e) ≡ bare e
-    by true = refl
-    by false = refl
+    by : (b : Bool) → nat_lt (strength t) l ≡ b → Writes w l d t → Spelled w l d t (if b then token.Open ∷ (tokens_in t ++ token.Close ∷ []) else tokens_in t)
+    by true e (inl x) = absurd (wrong (sym (le-ltb (strength t) l x.0) ∙ e))
+    by true e (inr x) = in_parens l d x.0 t x.1 x.2
+    by false e (inl x) = looser (λ y. y) x.0 (omega arith) x.1
+    by false e (inr x) = looser (λ y. y) (ltb-false (strength t) l e) (omega (arith, x.1)) x.2
+
+enclosed : {w : Bool} {l d : ℕ} {t : FilterTree} → Writes w 0 d t → Writes w l (suc d) t
+enclosed {d = d} (inl x) = inr (d, omega arith, x.1)
+enclosed (inr x) = inr (x.0, omega (arith, x.1), x.2)
 
 mutual
-  bare_shown : (e : Tree) → bare (shown e) ≡ bare e
-  bare_shown (leaf t) = refl
-  bare_shown (negation e) = ap negation (bare_guarded 2 (shown e) ∙ bare_shown e)
-  bare_shown (negative e) = ap negative (bare_guarded 6 (shown e) ∙ bare_shown e)
-  bare_shown (comparison a c b) =
-      ap (λ x. comparison x c (bare (parens_below 4 (shown b)))) (bare_guarded 4 (shown a) ∙ bare_shown a) ∙ ap (comparison (bare a) c) (bare_guarded 4 (shown b) ∙ bare_shown b)
-  bare_shown (chain k e ts) =
-      ap (λ x. chain k x (bare_terms (shown_terms k ts))) (bare_guarded (kind_strength k + 1) (shown e) ∙ bare_shown e) ∙ ap (chain k (bare e)) (bare_shown_terms k ts)
-  bare_shown (parens e) = bare_shown e
+  writes : {w : Bool} {l d : ℕ} {t : FilterTree} {us : List Token} → l ≤ 7 → Spelled w l d t us → Writes w l d t
+  writes h (or_form le p q) = inl (le, or_form (omega arith) (placed (writes (omega arith) p)) (writes_parts (omega arith) q))
+  writes h (and_form le p q) = inl (le, and_form (omega arith) (placed (writes (omega arith) p)) (writes_parts (omega arith) q))
+  writes h (not_form le p) = inl (le, not_form (omega arith) (placed (writes (omega arith) p)))
+  writes h (compare_form le p q) = inl (le, compare_form (omega arith) (placed (writes (omega arith) p)) (placed (writes (omega arith) q)))
+  writes h (sum_form le p q) = inl (le, sum_form (omega arith) (placed (writes (omega arith) p)) (writes_sums q))
+  writes h (product_form le p q) = inl (le, product_form (omega arith) (placed (writes (omega arith) p)) (writes_products q))
+  writes h (negate_form le p) = inl (le, negate_form (omega arith) (placed (writes (omega arith) p)))
+  writes h (parens_form p) = enclosed (writes (omega arith) p)
+  writes h (name_form s) = inl (h, name_form s)
+  writes h (text_form s) = inl (h, text_form s)
+  writes h (number_form z) = inl (h, number_form z)
+  writes h (out_of_range_form z b) = inl (h, number_form z)
+  writes h true_form = inl (h, true_form)
+  writes h false_form = inl (h, false_form)
+  writes h null_form = inl (h, null_form)
 
-  bare_shown_terms : (k : Kind) (ts : Terms) → bare_terms (shown_terms k ts) ≡ bare_terms ts
-  bare_shown_terms k no_terms = refl
-  bare_shown_terms k (term t e ts) =
-      ap (λ x. term t x (bare_terms (shown_terms k ts))) (bare_guarded (kind_strength k + 1) (shown e) ∙ bare_shown e) ∙ ap (term t (bare e)) (bare_shown_terms k ts)
+  writes_parts : {w : Bool} {s : Token} {l d : ℕ} {ts : FilterTrees} {us : List Token} → l ≤ 7 → Parts w s l d ts us → Parts w s l d ts (later_tokens s l ts)
+  writes_parts h parts_end = parts_end
+  writes_parts h (parts_then p q) = parts_then (placed (writes h p)) (writes_parts h q)
 
--- without parentheses nothing is lost of what is shown
-mutual
-  shown_bare : (e : Tree) → shown (bare e) ≡ shown e
-  shown_bare (leaf t) = refl
-  shown_bare (negation e) = ap (λ x. negation (parens_below 2 x)) (shown_bare e)
-  shown_bare (negative e) = ap (λ x. negative (parens_below 6 x)) (shown_bare e)
-  shown_bare (comparison a c b) = ap (λ x. comparison (parens_below 4 x) c (parens_below 4 (shown (bare b)))) (shown_bare a) ∙ ap (λ x. comparison (parens_below 4 (shown a)) c (parens_below 4 x)) (shown_bare b)
-  shown_bare (chain k e ts) =
-      ap (λ x. chain k (parens_below (kind_strength k + 1) x) (shown_terms k (bare_terms ts))) (shown_bare e) ∙ ap (chain k (parens_below (kind_strength k + 1) (shown e))) (shown_bare_terms k ts)
-  shown_bare (parens e) = shown_bare e
+  writes_sums : {w : Bool} {d : ℕ} {ts : SumTrees} {us : List Token} → Sums w d ts us → Sums w d ts (sum_tokens ts)
+  writes_sums sums_end = sums_end
+  writes_sums (sums_then p q) = sums_then (placed (writes (omega arith) p)) (writes_sums q)
 
-  shown_bare_terms : (k : Kind) (ts : Terms) → shown_terms k (bare_terms ts) ≡ shown_terms k ts
-  shown_bare_terms k no_terms = refl
-  shown_bare_terms k (term t e ts) =
-      ap (λ x. term t (parens_below (kind_strength k + 1) x) (shown_terms k (bare_terms ts))) (shown_bare e) ∙ ap (term t (parens_below (kind_strength k + 1) (shown e))) (shown_bare_terms k ts)
-
-guarded_stands : (l : ℕ) (e : Tree) → Stands (strength e) e → Stands l (parens_below l e)
-guarded_stands l e s = by (nat_lt (strength e) l) refl
-  where
-    by : (b : Bool) → nat_lt (strength e) l ≡ b → Stands l (if b then parens e else e)
-    by true q = stands_down e (strength e) 0 (omega arith) s
-    by false q = stands_down e (strength e) l (ltb-false (strength e) l q) s
-
-many_shown : (k : Kind) (ts : Terms) → IsMany ts → IsMany (shown_terms k ts)
-many_shown k no_terms m = m
-many_shown k (term t e ts) m = tt
-
-mutual
-  shown_stands : (e : Tree) (l : ℕ) → Stands l e → Stands (strength (shown e)) (shown e)
-  shown_stands (leaf t) l s = s
-  shown_stands (negation e) l s = (omega arith, guarded_stands 2 (shown e) (shown_stands e 2 s.1))
-  shown_stands (negative e) l s = (omega arith, guarded_stands 6 (shown e) (shown_stands e 6 s.1))
-  shown_stands (comparison a c b) l s = (omega arith, guarded_stands 4 (shown a) (shown_stands a 4 s.1), guarded_stands 4 (shown b) (shown_stands b 4 s.2))
-  shown_stands (chain k e ts) l s =
-      (omega arith, guarded_stands (kind_strength k + 1) (shown e) (shown_stands e (kind_strength k + 1) s.1), many_shown k ts s.2, terms_stand k ts s.3)
-  shown_stands (parens e) l s = shown_stands e 0 s
-
-  terms_stand : (k : Kind) (ts : Terms) → StandTerms k ts → StandTerms k (shown_terms k ts)
-  terms_stand k no_terms s = s
-  terms_stand k (term t e ts) s = (s.0, guarded_stands (kind_strength k + 1) (shown e) (shown_stands e (kind_strength k + 1) s.1), terms_stand k ts s.2)
-
-guarded_range : (l : ℕ) (e : Tree) → InRange e → InRange (parens_below l e)
-guarded_range l e r = by (nat_lt (strength e) l)
-  where
-    by : (b : Bool) → InRange (if b then parens e else e)
-    by true = r
-    by false = r
-
-mutual
-  shown_range : (e : Tree) → InRange e → InRange (shown e)
-  shown_range (leaf t) r = r
-  shown_range (negation e) r = guarded_range 2 (shown e) (shown_range e r)
-  shown_range (negative e) r = guarded_range 6 (shown e) (shown_range e r)
-  shown_range (comparison a c b) r = (guarded_range 4 (shown a) (shown_range a r.0), guarded_range 4 (shown b) (shown_range b r.1))
-  shown_range (chain k e ts) r = (guarded_range (kind_strength k + 1) (shown e) (shown_range e r.0), terms_range k ts r.1)
-  shown_range (parens e) r = shown_range e r
-
-  terms_range : (k : Kind) (ts : Terms) → TermsInRange ts → TermsInRange (shown_terms k ts)
-  terms_range k no_terms r = r
-  terms_range k (term t e ts) r = (guarded_range (kind_strength k + 1) (shown e) (shown_range e r.0), terms_range k ts r.1)
-
--- parentheses are put only where the tree had some
-guarded_most : (l : ℕ) (e : Tree) → nesting (parens_below l e) ≤ 1 + nesting e
-guarded_most l e = by (nat_lt (strength e) l)
-  where
-    by : (b : Bool) → nesting (if b then parens e else e) ≤ 1 + nesting e
-    by true = omega arith
-    by false = omega arith
-
-unguarded : (l : ℕ) (e : Tree) → l ≤ strength e → nesting (parens_below l e) ≡ nesting e
-unguarded l e h = ap (λ b. nesting (if b then parens e else e)) (le-ltb (strength e) l h)
-
-mutual
-  shown_nests : (e : Tree) (l : ℕ) → Stands l e → nesting (shown e) ≤ nesting e
-  shown_nests (leaf t) l s = omega arith
-  shown_nests (negation e) l s = omega (arith, part_nests e 2 (omega arith) s.1)
-  shown_nests (negative e) l s = omega (arith, part_nests e 6 (omega arith) s.1)
-  shown_nests (comparison a c b) l s = omega (arith, part_nests a 4 (omega arith) s.1, part_nests b 4 (omega arith) s.2)
-  shown_nests (chain k e ts) l s = omega (arith, part_nests e (kind_strength k + 1) (omega (arith, strength_below k)) s.1, terms_nest k ts s.3)
-  shown_nests (parens e) l s = omega (arith, shown_nests e 0 s)
-
-  part_nests : (e : Tree) (l : ℕ) → l ≤ 7 → Stands l e → nesting (parens_below l (shown e)) ≤ nesting e
-  part_nests (leaf t) l h s = omega (arith, unguarded l (leaf t) h)
-  part_nests (negation e) l h s = omega (arith, unguarded l (shown (negation e)) s.0, part_nests e 2 (omega arith) s.1)
-  part_nests (negative e) l h s = omega (arith, unguarded l (shown (negative e)) s.0, part_nests e 6 (omega arith) s.1)
-  part_nests (comparison a c b) l h s = omega (arith, unguarded l (shown (comparison a c b)) s.0, part_nests a 4 (omega arith) s.1, part_nests b 4 (omega arith) s.2)
-  part_nests (chain k e ts) l h s = omega (arith, unguarded l (shown (chain k e ts)) s.0, part_nests e (kind_strength k + 1) (omega (arith, strength_below k)) s.1, terms_nest k ts s.3)
-  part_nests (parens e) l h s = omega (arith, guarded_most l (shown e), shown_nests e 0 s)
-
-  terms_nest : (k : Kind) (ts : Terms) → StandTerms k ts → nesting_terms (shown_terms k ts) ≤ nesting_terms ts
-  terms_nest k no_terms s = omega arith
-  terms_nest k (term t e ts) s = omega (arith, part_nests e (kind_strength k + 1) (omega (arith, strength_below k)) s.1, terms_nest k ts s.2)
+  writes_products : {w : Bool} {d : ℕ} {ts : ProductTrees} {us : List Token} → Products w d ts us → Products w d ts (product_tokens ts)
+  writes_products products_end = products_end
+  writes_products (products_then p q) = products_then (placed (writes (omega arith) p)) (writes_products q)
 
 -- ---- what can be said
 
@@ -242,11 +179,14 @@ said token.False us s e = refl
 said token.Null us s e = refl
 said _ us s e = absurd (wrong e)
 
-sign_said : (k : Kind) (t : Token) → joins k t ≡ true → Said t
-sign_said or_chain t e = or_signs Said (inl refl) t e
-sign_said and_chain t e = and_signs Said (inl refl) t e
-sign_said sum_chain t e = sum_signs Said refl refl t e
-sign_said product_chain t e = product_signs Said refl refl refl t e
+sum_said : (c : SumSign) → Said (sum_token c)
+sum_said sum.Plus = refl
+sum_said sum.Minus = refl
+
+product_said : (c : ProductSign) → Said (product_token c)
+product_said product.Times = refl
+product_said product.Divide = refl
+product_said product.Rest = refl
 
 compare_said : (c : CompareSign) → Said (token.Compare c)
 compare_said compare.Equal = refl
@@ -257,59 +197,59 @@ compare_said compare.Greater = refl
 compare_said compare.GreaterEqual = refl
 
 -- each token of the list is spelled somewhere
-abbrev Heard : List PlacedToken → Type 0
+abbrev Heard : List Token → Type 0
 Heard [] = Unit {0}
-Heard (s ∷ ss) = ((us : List ℕ) × SpellsToken s.token us) × Heard ss
+Heard (u ∷ us) = ((bs : List ℕ) × SpellsToken u bs) × Heard us
 
-heard_first : (xs ys : List PlacedToken) → Heard (xs ++ ys) → Heard xs
-heard_first [] ys h = tt
-heard_first (s ∷ xs) ys h = (h.0, heard_first xs ys h.1)
+heard_first : (us vs : List Token) → Heard (us ++ vs) → Heard us
+heard_first [] vs h = tt
+heard_first (u ∷ us) vs h = (h.0, heard_first us vs h.1)
 
-heard_second : (xs ys : List PlacedToken) → Heard (xs ++ ys) → Heard ys
-heard_second [] ys h = h
-heard_second (s ∷ xs) ys h = heard_second xs ys h.1
+heard_second : (us vs : List Token) → Heard (us ++ vs) → Heard vs
+heard_second [] vs h = h
+heard_second (u ∷ us) vs h = heard_second us vs h.1
 
-guarded_said : (l : ℕ) (e : Tree) → AllSaid (tokens_in e) → AllSaid (tokens_in (parens_below l e))
-guarded_said l e h = by (nat_lt (strength e) l)
+said_in_place : (l : ℕ) (t : FilterTree) → AllSaid (tokens_in t) → AllSaid (in_place l t (tokens_in t))
+said_in_place l t h = by (nat_lt (strength t) l)
   where
-    by : (b : Bool) → AllSaid (tokens_in (if b then parens e else e))
-    by true = (refl, said_both (tokens_in e) (token.Close ∷ []) h (refl, tt))
+    by : (b : Bool) → AllSaid (if b then token.Open ∷ (tokens_in t ++ token.Close ∷ []) else tokens_in t)
+    by true = (refl, said_both (tokens_in t) (token.Close ∷ []) h (refl, tt))
     by false = h
 
-mutual
-  shown_said : (e : Tree) (l : ℕ) (us : List PlacedToken) → Stands l e → InRange e → IsSpelled e us → Heard us → AllSaid (tokens_in (shown e))
-  shown_said (leaf t) l us s r p h =
-      let heard : Heard (p.0 ∷ []) = subst Heard p.1 h in
-      (said t heard.0.0 (subst (λ x. SpellsToken x heard.0.0) p.2 heard.0.1) r, tt)
-  shown_said (negation e) l us s r p h =
-      let heard : Heard (p.0 ∷ p.1) = subst Heard p.2 h in
-      (inl refl, guarded_said 2 (shown e) (shown_said e 2 p.1 s.1 r p.4 heard.1))
-  shown_said (negative e) l us s r p h =
-      let heard : Heard (p.0 ∷ p.1) = subst Heard p.2 h in
-      (refl, guarded_said 6 (shown e) (shown_said e 6 p.1 s.1 r p.4 heard.1))
-  shown_said (comparison a c b) l us s r p h =
-      let heard : Heard (p.0 ++ p.1 ∷ p.2) = subst Heard p.3 h in
-      said_both (tokens_in (parens_below 4 (shown a))) (token.Compare c ∷ tokens_in (parens_below 4 (shown b)))
-      (guarded_said 4 (shown a) (shown_said a 4 p.0 s.1 r.0 p.5 (heard_first p.0 (p.1 ∷ p.2) heard)))
-      (compare_said c, guarded_said 4 (shown b) (shown_said b 4 p.2 s.2 r.1 p.6 (heard_second p.0 (p.1 ∷ p.2) heard).1))
-  shown_said (chain k e ts) l us s r p h =
-      let heard : Heard (p.0 ++ p.1) = subst Heard p.2 h in
-      said_both (tokens_in (parens_below (kind_strength k + 1) (shown e))) (tokens_of_terms (shown_terms k ts))
-      (guarded_said (kind_strength k + 1) (shown e) (shown_said e (kind_strength k + 1) p.0 s.1 r.0 p.3 (heard_first p.0 p.1 heard)))
-      (terms_said ts k p.1 s.3 r.1 p.4 (heard_second p.0 p.1 heard))
-  shown_said (parens e) l us s r p h =
-      let heard : Heard (p.0 ∷ (p.1 ++ p.2 ∷ [])) = subst Heard p.3 h in
-      shown_said e 0 p.1 s r p.6 (heard_first p.1 (p.2 ∷ []) heard.1)
+-- a filter in its place, and what is written behind it
+said_then : (l : ℕ) (t : FilterTree) (more : List Token) → AllSaid (tokens_in t) → AllSaid more → AllSaid (in_place l t (tokens_in t) ++ more)
+said_then l t more h g = said_both (in_place l t (tokens_in t)) more (said_in_place l t h) g
 
-  terms_said : (ts : Terms) (k : Kind) (us : List PlacedToken) → StandTerms k ts → TermsInRange ts → AreSpelled ts us → Heard us → AllSaid (tokens_of_terms (shown_terms k ts))
-  terms_said no_terms k us s r p h = tt
-  terms_said (term t e ts) k us s r p h =
-      let heard : Heard (p.0 ∷ (p.1 ++ p.2)) = subst Heard p.3 h in (
-        sign_said k (sign_token t) s.0,
-        said_both (tokens_in (parens_below (kind_strength k + 1) (shown e))) (tokens_of_terms (shown_terms k ts))
-            (guarded_said (kind_strength k + 1) (shown e) (shown_said e (kind_strength k + 1) p.1 s.1 r.0 p.5 (heard_first p.1 p.2 heard.1)))
-            (terms_said ts k p.2 s.2 r.1 p.6 (heard_second p.1 p.2 heard.1)),
-      )
+mutual
+  all_said : {l d : ℕ} {t : FilterTree} {us : List Token} → Spelled false l d t us → Heard us → AllSaid (tokens_in t)
+  all_said (or_form {s = s} {us = us} {vs = vs} le p q) h = said_then 1 s _ (all_said p (heard_first us vs h)) (parts_said q (inl refl) (heard_second us vs h))
+  all_said (and_form {s = s} {us = us} {vs = vs} le p q) h = said_then 2 s _ (all_said p (heard_first us vs h)) (parts_said q (inl refl) (heard_second us vs h))
+  all_said (not_form {t = t} le p) h = (inl refl, said_in_place 2 t (all_said p h.1))
+  all_said (compare_form {s = s} {t = t} {c = c} {us = us} {vs = vs} le p q) h =
+      said_then 4 s _ (all_said p (heard_first us (token.Compare c ∷ vs) h)) (compare_said c, said_in_place 4 t (all_said q (heard_second us (token.Compare c ∷ vs) h).1))
+  all_said (sum_form {s = s} {us = us} {vs = vs} le p q) h = said_then 5 s _ (all_said p (heard_first us vs h)) (sums_said q (heard_second us vs h))
+  all_said (product_form {s = s} {us = us} {vs = vs} le p q) h = said_then 6 s _ (all_said p (heard_first us vs h)) (products_said q (heard_second us vs h))
+  all_said (negate_form {t = t} le p) h = (refl, said_in_place 6 t (all_said p h.1))
+  all_said (parens_form {us = us} p) h = all_said p (heard_first us (token.Close ∷ []) h.1)
+  all_said (name_form s) h = (said (token.Name s) h.0.0 h.0.1 refl, tt)
+  all_said (text_form s) h = (said (token.Quoted s) h.0.0 h.0.1 refl, tt)
+  all_said (number_form z) h = (said (token.Number z) h.0.0 h.0.1 refl, tt)
+  all_said (out_of_range_form z b) h = absurd (wrong b)
+  all_said true_form h = (refl, tt)
+  all_said false_form h = (refl, tt)
+  all_said null_form h = (refl, tt)
+
+  parts_said : {s : Token} {l d : ℕ} {ts : FilterTrees} {us : List Token} → Parts false s l d ts us → Said s → Heard us → AllSaid (later_tokens s l ts)
+  parts_said parts_end e h = tt
+  parts_said (parts_then {n = l} {t = t} {us = us} {vs = vs} p q) e h = (e, said_then l t _ (all_said p (heard_first us vs h.1)) (parts_said q e (heard_second us vs h.1)))
+
+  sums_said : {d : ℕ} {ts : SumTrees} {us : List Token} → Sums false d ts us → Heard us → AllSaid (sum_tokens ts)
+  sums_said sums_end h = tt
+  sums_said (sums_then {t = t} {c = c} {us = us} {vs = vs} p q) h = (sum_said c, said_then 5 t _ (all_said p (heard_first us vs h.1)) (sums_said q (heard_second us vs h.1)))
+
+  products_said : {d : ℕ} {ts : ProductTrees} {us : List Token} → Products false d ts us → Heard us → AllSaid (product_tokens ts)
+  products_said products_end h = tt
+  products_said (products_then {t = t} {c = c} {us = us} {vs = vs} p q) h = (product_said c, said_then 6 t _ (all_said p (heard_first us vs h.1)) (products_said q (heard_second us vs h.1)))
 
 -- ---- tokens with spaces between them
 
@@ -373,7 +313,7 @@ tail_tokens [] at h = ([], [], [], refl, refl, sym (add-zero at), inr (refl, ref
 tail_tokens (t ∷ ts) at h =
     (32 ∷ [], spelling t, tail_of ts, refl, refl, refl, inl ((h.0, ends_before_tail t h.0 ts), tail_tokens ts (at + 1 + length (spelling t)) h.1))
 
-tokens_mapped : (ts : List Token) (at : ℕ) → map (λ (s : PlacedToken). s.token) (stream_after at ts) ≡ ts
+tokens_mapped : (ts : List Token) (at : ℕ) → tokens (stream_after at ts) ≡ ts
 tokens_mapped [] at = refl
 tokens_mapped (t ∷ ts) at = ap (λ us. t ∷ us) (tokens_mapped ts (at + 1 + length (spelling t)))
 
@@ -381,20 +321,20 @@ tokens_mapped (t ∷ ts) at = ap (λ us. t ∷ us) (tokens_mapped ts (at + 1 + l
 record Lexed (ts : List Token) : Type 0 where
   stream : List PlacedToken
   last : PlacedToken
-  tokens : TokensOf (put_tokens [] ts) (stream ++ last ∷ [])
+  lexed : TokensOf (put_tokens [] ts) (stream ++ last ∷ [])
   end : last.token ≡ token.End
-  are : map (λ (s : PlacedToken). s.token) stream ≡ ts
+  are : tokens stream ≡ ts
 
 put_first : (us : List ℕ) (ts : List Token) → us ≢ [] → put_tokens us ts ≡ us ++ tail_of ts
 put_first [] ts n = absurd (n refl)
 put_first (b ∷ bs) ts n = put_tail b bs ts
 
 lexed_written : (ts : List Token) → AllSaid ts → Lexed ts
-lexed_written [] h = record { stream = []; last = end_at 0; tokens = tail_tokens [] 0 tt; end = refl; are = refl }
+lexed_written [] h = record { stream = []; last = end_at 0; lexed = tail_tokens [] 0 tt; end = refl; are = refl }
 lexed_written (t ∷ ts) h = record {
   stream = record { token = t; offset = 0 } ∷ stream_after (length (spelling t)) ts;
   last = end_at (end_after (length (spelling t)) ts);
-  tokens = (
+  lexed = (
     [],
     spelling t,
     tail_of ts,
@@ -410,104 +350,38 @@ lexed_written (t ∷ ts) h = record {
   are = ap (λ us. t ∷ us) (tokens_mapped ts (length (spelling t)));
 }
 
--- ---- the tokens spell the tree
-
-record Cut (ss : List PlacedToken) (xs ys : List Token) : Type 0 where
-  first : List PlacedToken
-  second : List PlacedToken
-  split : ss ≡ first ++ second
-  left : map (λ (s : PlacedToken). s.token) first ≡ xs
-  right : map (λ (s : PlacedToken). s.token) second ≡ ys
-
-token_heads : (s : PlacedToken) (ss : List PlacedToken) (t : Token) (ts : List Token) → map (λ (x : PlacedToken). x.token) (s ∷ ss) ≡ t ∷ ts → (s.token ≡ t) × (map (λ (x : PlacedToken). x.token) ss ≡ ts)
-token_heads s ss t ts e = (cc, cc)
-
-no_tokens : (t : Token) (ts : List Token) → [] ≡ t ∷ ts → ⊥
-no_tokens t ts e = cc
-
-cut : (ss : List PlacedToken) (xs ys : List Token) → map (λ (s : PlacedToken). s.token) ss ≡ xs ++ ys → Cut ss xs ys
-cut ss [] ys e = record { first = []; second = ss; split = refl; left = refl; right = e }
-cut [] (x ∷ xs) ys e = absurd (no_tokens x (xs ++ ys) e)
-cut (s ∷ ss) (x ∷ xs) ys e = by (token_heads s ss x (xs ++ ys) e) (cut ss xs ys (token_heads s ss x (xs ++ ys) e).1)
-  where
-    by : (s.token ≡ x) × (map (λ (z : PlacedToken). z.token) ss ≡ xs ++ ys) → Cut ss xs ys → Cut (s ∷ ss) (x ∷ xs) ys
-    by h c = record {
-      first = s ∷ c.first;
-      second = c.second;
-      split = ap (λ l. s ∷ l) c.split;
-      left = ap (λ l. s.token ∷ l) c.left ∙ ap (λ t. t ∷ xs) h.0;
-      right = c.right;
-    }
-
-one_placed : (ss : List PlacedToken) (t : Token) → map (λ (s : PlacedToken). s.token) ss ≡ t ∷ [] → (s : PlacedToken) × (ss ≡ s ∷ []) × (s.token ≡ t)
-one_placed [] t e = absurd (no_tokens t [] e)
-one_placed (s ∷ []) t e = (s, refl, (token_heads s [] t [] e).0)
-one_placed (s ∷ x ∷ ss) t e = absurd (no_tokens x.token (map (λ (z : PlacedToken). z.token) ss) (sym (token_heads s (x ∷ ss) t [] e).1))
-
-first_placed : (ss : List PlacedToken) (t : Token) (ts : List Token) → map (λ (s : PlacedToken). s.token) ss ≡ t ∷ ts → (s : PlacedToken) × (vs : List PlacedToken) × (ss ≡ s ∷ vs) × (s.token ≡ t) × (map (λ (x : PlacedToken). x.token) vs ≡ ts)
-first_placed [] t ts e = absurd (no_tokens t ts e)
-first_placed (s ∷ ss) t ts e = (s, ss, refl, (token_heads s ss t ts e).0, (token_heads s ss t ts e).1)
-
-mutual
-  spells_tree : (e : Tree) (ss : List PlacedToken) → map (λ (s : PlacedToken). s.token) ss ≡ tokens_in e → IsSpelled e ss
-  spells_tree (leaf t) ss m = one_placed ss t m
-  spells_tree (negation e) ss m = let f = first_placed ss token.Not (tokens_in e) m in (f.0, f.1, f.2, f.3, spells_tree e f.1 f.4)
-  spells_tree (negative e) ss m = let f = first_placed ss token.Minus (tokens_in e) m in (f.0, f.1, f.2, f.3, spells_tree e f.1 f.4)
-  spells_tree (comparison a c b) ss m =
-      let k : Cut ss (tokens_in a) (token.Compare c ∷ tokens_in b) = cut ss (tokens_in a) (token.Compare c ∷ tokens_in b) m in
-      let f = first_placed k.second (token.Compare c) (tokens_in b) k.right in
-      (k.first, f.0, f.1, k.split ∙ ap (λ l. k.first ++ l) f.2, f.3, spells_tree a k.first k.left, spells_tree b f.1 f.4)
-  spells_tree (chain k e ts) ss m =
-      let c : Cut ss (tokens_in e) (tokens_of_terms ts) = cut ss (tokens_in e) (tokens_of_terms ts) m in
-      (c.first, c.second, c.split, spells_tree e c.first c.left, spell_terms ts c.second c.right)
-  spells_tree (parens e) ss m =
-      let f = first_placed ss token.Open (tokens_in e ++ token.Close ∷ []) m in
-      let c : Cut f.1 (tokens_in e) (token.Close ∷ []) = cut f.1 (tokens_in e) (token.Close ∷ []) f.4 in
-      let z = one_placed c.second token.Close c.right in
-      (f.0, c.first, z.0, f.2 ∙ ap (λ l. f.0 ∷ l) (c.split ∙ ap (λ l. c.first ++ l) z.1), f.3, z.2, spells_tree e c.first c.left)
-
-  spell_terms : (ts : Terms) (ss : List PlacedToken) → map (λ (s : PlacedToken). s.token) ss ≡ tokens_of_terms ts → AreSpelled ts ss
-  spell_terms no_terms [] m = refl
-  spell_terms no_terms (s ∷ ss) m = absurd (no_tokens s.token (map (λ (x : PlacedToken). x.token) ss) (sym m))
-  spell_terms (term t e ts) ss m =
-      let f = first_placed ss (sign_token t) (tokens_in e ++ tokens_of_terms ts) m in
-      let c : Cut f.1 (tokens_in e) (tokens_of_terms ts) = cut f.1 (tokens_in e) (tokens_of_terms ts) f.4 in
-      (f.0, c.first, c.second, f.2 ∙ ap (λ l. f.0 ∷ l) c.split, f.3, spells_tree e c.first c.left, spell_terms ts c.second c.right)
-
 -- ---- the filter again
 
-no_placed : (s : PlacedToken) (ss : List PlacedToken) → [] ≡ s ∷ ss → ⊥
-no_placed s ss e = cc
+no_tokens : (us : List Token) (z : Token) → [] ≡ us ++ z ∷ [] → ⊥
+no_tokens [] z e = cc
+no_tokens (u ∷ us) z e = cc
 
 -- the tokens before the end of a text are all spelled in it
-tokens_heard : (us : List PlacedToken) (z : PlacedToken) (at : ℕ) (bs : List ℕ) → AreTokens at bs (us ++ z ∷ []) → Heard us
-tokens_heard [] z at bs h = tt
-tokens_heard (s ∷ us) z at bs h = by h.6 (λ k l. tokens_heard us z k l)
+tokens_heard : (us : List Token) (ts : List PlacedToken) (at : ℕ) (bs : List ℕ) → AreTokens at bs ts → tokens ts ≡ us ++ token.End ∷ [] → Heard us
+tokens_heard [] ts at bs h e = tt
+tokens_heard (u ∷ us) [] at bs h e = absurd h
+tokens_heard (u ∷ us) (s ∷ ts) at bs h e = by h.6 (λ k l a. tokens_heard us ts k l a (tail_same s.token u (tokens ts) (us ++ token.End ∷ []) e))
   where
-    nothing_after : (xs : List PlacedToken) → xs ++ z ∷ [] ≡ [] → ⊥
-    nothing_after [] e = no_placed z [] (sym e)
-    nothing_after (x ∷ xs) e = no_placed x (xs ++ z ∷ []) (sym e)
-
-    by : Rest (at + length h.0) h.1 h.2 s (us ++ z ∷ []) → ((k : ℕ) (l : List ℕ) → AreTokens k l (us ++ z ∷ []) → Heard us) → Heard (s ∷ us)
-    by (inl r) ih = ((h.1, r.0.0), ih (at + length h.0 + length h.1) h.2 r.1)
-    by (inr r) ih = absurd (nothing_after us r.0)
+    by : Rest (at + length h.0) h.1 h.2 s ts → ((k : ℕ) (l : List ℕ) → AreTokens k l ts → Heard us) → Heard (u ∷ us)
+    by (inl r) ih = ((h.1, subst (λ x. SpellsToken x h.1) (head_same s.token u (tokens ts) (us ++ token.End ∷ []) e) r.0.0), ih (at + length h.0 + length h.1) h.2 r.1)
+    by (inr r) ih = absurd (no_tokens us token.End (ap (λ l. tokens l) (sym r.0) ∙ tail_same s.token u (tokens ts) (us ++ token.End ∷ []) e))
 
 pub written_again : ReadsAgain
 written_again text t f =
-    let a : IsFilter f.0 (shape t) = to_filter f.0 t f.2 in
-    let heard : Heard a.text.0 = tokens_heard a.text.0 a.text.1 0 text (subst (TokensOf text) a.text.2 f.1) in
-    let same : shown (shape t) ≡ shown a.tree = ap shown (sym a.is) ∙ shown_bare a.tree in
-    let saids : AllSaid (tokens_in (shown (shape t))) = subst (λ x. AllSaid (tokens_in x)) (sym same) (shown_said a.tree 0 a.text.0 a.stands a.range a.text.4 heard) in
-    let l : Lexed (tokens_in (shown (shape t))) = lexed_written (tokens_in (shown (shape t))) saids in
-    let again : IsFilter (l.stream ++ l.last ∷ []) (shape t) = record {
-      tree = shown (shape t);
-      stands = subst (Stands 0) (sym same) (stands_down (shown a.tree) (strength (shown a.tree)) 0 (omega arith) (shown_stands a.tree 0 a.stands));
-      text = (l.stream, l.last, refl, l.end, spells_tree (shown (shape t)) l.stream l.are);
-      range = subst InRange (sym same) (shown_range a.tree a.range);
-      deep = subst (λ x. nesting x ≤ 64) (sym same) (omega (arith, shown_nests a.tree 0 a.stands, a.deep));
-      is = ap bare same ∙ bare_shown a.tree ∙ a.is;
-    } in
-    (l.stream ++ l.last ∷ [], l.tokens, from_filter (l.stream ++ l.last ∷ []) t again)
+    let p : Spelled false 0 64 t f.2.0 = f.2.2 in
+    let l : Lexed (tokens_in t) = lexed_written (tokens_in t) (all_said p (tokens_heard f.2.0 f.0 0 text f.1 f.2.1)) in (
+      l.stream ++ l.last ∷ [],
+      l.lexed,
+      (
+        tokens_in t,
+        tokens_both l.stream (l.last ∷ []) ∙ ap (λ us. us ++ l.last.token ∷ []) l.are ∙ ap (λ u. tokens_in t ++ u ∷ []) l.end,
+        unguarded (writes (omega arith) p),
+      ),
+    )
+  where
+    unguarded : Writes false 0 64 t → Spelled false 0 64 t (tokens_in t)
+    unguarded (inl x) = looser (λ y. y) (omega arith) (omega arith) x.1
+    unguarded (inr x) = looser (λ y. y) (omega arith) (omega (arith, x.1)) x.2
 
 -- ---- what follows
 

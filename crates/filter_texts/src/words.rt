@@ -1,10 +1,9 @@
 //! The words of a written filter, with a space before each but the first.
 ghost use Rattle.std.specs.Prelude.{◌≡◌, OnOk, string_bytes, ◌++◌};
 ghost use Rattle.filter_expr.specs.declared.tokens.Token.TheVariants as token;
-ghost use Rattle.filter_expr.specs.Trees.{sum_token, product_token};
-ghost use Rattle.filter_expr.specs.Grammar.{strength};
-ghost use Rattle.filter_expr.specs.Seen.{seen, truth_token};
-ghost use Rattle.filter_texts.specs.Written.{escaped_text, spelling, put_behind, shown};
+ghost use Rattle.filter_expr.specs.Spelled.{sum_token, product_token};
+ghost use Rattle.plain_filters.specs.Filters.{tree_of};
+ghost use Rattle.filter_texts.specs.Written.{escaped_text, spelling, strength, truth_token, put_behind};
 ghost use Rattle.filter_texts.specs.inner.Pieces.{with_space, escaped_char};
 
 use farm_base::NoMemory;
@@ -31,7 +30,8 @@ pub fn put_word(out: &mut String, word: &str) -> Result<(), NoMemory>
 
 /// An attribute's name in brackets.
 pub fn put_name(out: &mut String, name: &str) -> Result<(), NoMemory>
-    ensures { OnOk result (string_bytes out.new ≡ put_behind (string_bytes out.old) (spelling (token.Name name.now))) }
+    ensures { OnOk result (string_bytes out.new
+        ≡ put_behind (string_bytes out.old) (spelling (token.Name name.now))) }
 {
     put_space(out)?;
     out.push_str("[")?;
@@ -42,7 +42,8 @@ pub fn put_name(out: &mut String, name: &str) -> Result<(), NoMemory>
 
 /// A text between single quotes.
 pub fn put_quoted(out: &mut String, text: &str) -> Result<(), NoMemory>
-    ensures { OnOk result (string_bytes out.new ≡ put_behind (string_bytes out.old) (spelling (token.Quoted text.now))) }
+    ensures { OnOk result (string_bytes out.new
+        ≡ put_behind (string_bytes out.old) (spelling (token.Quoted text.now))) }
 {
     put_space(out)?;
     out.push_str("'")?;
@@ -73,7 +74,8 @@ fn put_char(out: &mut String, c: char) -> Result<(), NoMemory>
 
 /// A number in decimal digits.
 pub fn put_number(out: &mut String, n: i64) -> Result<(), NoMemory>
-    ensures { OnOk result (string_bytes out.new ≡ put_behind (string_bytes out.old) (spelling (token.Number n))) }
+    ensures { OnOk result (string_bytes out.new
+        ≡ put_behind (string_bytes out.old) (spelling (token.Number n))) }
 {
     put_space(out)?;
     write!(out, "{n}")?;
@@ -122,7 +124,7 @@ pub fn product_word(sign: ProductSign) -> &'static str
 /// 5 a product, 6 a negative, 7 what stands by itself.
 #[tactic(auto, using(crate::proofs::Pieces::strengths))]
 pub fn strength(e: &Expr) -> u32
-    ensures { result ≡ strength (shown (seen e.now)) }
+    ensures { result ≡ strength (tree_of e.now) }
 {
     match e {
         Expr::Or(_) => 0,

@@ -1,9 +1,8 @@
 //! Writes a filter as a text.
 ghost use Rattle.std.specs.Prelude.{◌≡◌, OnOk, IfOk, ℕ, List, map, string_bytes};
 ghost use Rattle.plain_filters.specs.Filters.{tree_of};
-ghost use Rattle.filter_expr.specs.Seen.{seen};
 ghost use Rattle.filter_expr.specs.Filters.{FilterOf};
-ghost use Rattle.filter_expr.specs.inner.SeenParts.{seen_sum, seen_product};
+ghost use Rattle.filter_expr.specs.inner.Parts.{read_sum, read_product};
 ghost use Rattle.filter_texts.specs.Written.{filter_text};
 ghost use Rattle.filter_texts.specs.inner.Pieces as piece;
 ghost use Rattle.filter_texts.specs.inner.Pieces.{put_tree, put_terms};
@@ -23,7 +22,8 @@ use std::alloc::Global;
 /// text, and no deeper than the filter.
 pub fn write(alloc: Global, e: &Expr) -> Result<Text, NoMemory>
     ensures text { IfOk result (λ t. t ≡ filter_text (tree_of e.now)) }
-    ensures again { IfOk result (λ t. (text : List ℕ) → FilterOf text (tree_of e.now) → FilterOf t (tree_of e.now)) }
+    ensures again { IfOk result
+        (λ t. (text : List ℕ) → FilterOf text (tree_of e.now) → FilterOf t (tree_of e.now)) }
 {
     let mut out = String::new(alloc);
     put_form(&mut out, e)?;
@@ -34,7 +34,8 @@ pub fn write(alloc: Global, e: &Expr) -> Result<Text, NoMemory>
 #[cycle(writer)]
 #[tactic(auto, using(crate::proofs::Pieces::put_bare, crate::proofs::Pieces::put_guarded))]
 fn put(out: &mut String, e: &Expr, least: u32) -> Result<(), NoMemory>
-    ensures { OnOk result (string_bytes out.new ≡ put_tree least (seen e.now) (string_bytes out.old)) }
+    ensures { OnOk result (string_bytes out.new
+        ≡ put_tree least (tree_of e.now) (string_bytes out.old)) }
 {
     if strength(e) >= least {
         return put_form(out, e);
@@ -48,7 +49,8 @@ fn put(out: &mut String, e: &Expr, least: u32) -> Result<(), NoMemory>
 #[cycle(writer)]
 #[tactic(auto, using(crate::proofs::Pieces::forms))]
 fn put_form(out: &mut String, e: &Expr) -> Result<(), NoMemory>
-    ensures { OnOk result (string_bytes out.new ≡ piece.put_form (seen e.now) (string_bytes out.old)) }
+    ensures { OnOk result (string_bytes out.new
+        ≡ piece.put_form (tree_of e.now) (string_bytes out.old)) }
 {
     match e {
         Expr::Or(parts) => put_list(out, parts, "or", 1),
@@ -85,7 +87,8 @@ fn put_form(out: &mut String, e: &Expr) -> Result<(), NoMemory>
 #[cycle(writer)]
 #[tactic(auto, using(crate::proofs::Pieces::part_here, crate::proofs::Pieces::list_begins))]
 fn put_list(out: &mut String, parts: &[Expr], word: &str, least: u32) -> Result<(), NoMemory>
-    ensures { OnOk result (string_bytes out.new ≡ piece.put_list word.now least (map seen parts.now) (string_bytes out.old)) }
+    ensures { OnOk result (string_bytes out.new
+        ≡ piece.put_list word.now least (map tree_of parts.now) (string_bytes out.old)) }
 {
     let Some(first) = parts.first() else {
         return put_word(out, "");
@@ -101,7 +104,8 @@ fn put_list(out: &mut String, parts: &[Expr], word: &str, least: u32) -> Result<
 #[cycle(writer)]
 #[tactic(auto, using(crate::proofs::Pieces::term_here))]
 fn put_sums(out: &mut String, parts: &[SumPart]) -> Result<(), NoMemory>
-    ensures { OnOk result (string_bytes out.new ≡ put_terms 5 (map seen_sum parts.now) (string_bytes out.old)) }
+    ensures { OnOk result (string_bytes out.new
+        ≡ put_terms 5 (map read_sum parts.now) (string_bytes out.old)) }
 {
     for later in parts {
         put_word(out, sum_word(later.sign))?;
@@ -113,7 +117,8 @@ fn put_sums(out: &mut String, parts: &[SumPart]) -> Result<(), NoMemory>
 #[cycle(writer)]
 #[tactic(auto, using(crate::proofs::Pieces::term_here))]
 fn put_products(out: &mut String, parts: &[ProductPart]) -> Result<(), NoMemory>
-    ensures { OnOk result (string_bytes out.new ≡ put_terms 6 (map seen_product parts.now) (string_bytes out.old)) }
+    ensures { OnOk result (string_bytes out.new
+        ≡ put_terms 6 (map read_product parts.now) (string_bytes out.old)) }
 {
     for later in parts {
         put_word(out, product_word(later.sign))?;

@@ -10,7 +10,7 @@ use Rattle.plain_shapes.specs.Images.{Pixels}
 use Rattle.plain_image.specs.PpmText.{ppm_of}
 use Rattle.filter_expr.specs.declared.faults.FilterFault.{FilterFault}
 use Rattle.filter_expr.specs.Filters.{FilterOf, FaultOf}
-use Rattle.filter_expr.proofs.Plain.{some_answer, says_filter, says_fault}
+use Rattle.filter_expr.proofs.Texts.{some_answer, says_filter, says_fault}
 use Rattle.paint_texts.specs.Colours.{IsColour, colour_of}
 use Rattle.paint_texts.specs.Decimals.{IsDecimal, hundredths_of, thousandths_of}
 use Rattle.paint_texts.proofs.Exact.{colour_exact}

@@ -1,8 +1,8 @@
 -- The text of a filter put together piece by piece, each behind what was written so far.
 use Rattle.std.specs.Prelude.{ℕ, Bool, ◌==◌, ◌||◌, if◌then◌else◌, List, [], ◌∷◌, ◌++◌, encode_utf8}
-use Rattle.filter_expr.specs.Trees.{Tree, sign_token}
-use Rattle.filter_expr.specs.Seen.{Part}
-use Rattle.filter_texts.specs.Written.{spelling, parens_below, shown, tokens_in, put_behind, put_tokens}
+use Rattle.plain_filters.specs.Filters.{FilterTree}
+use Rattle.filter_expr.specs.Reading.{Part}
+use Rattle.filter_texts.specs.Written.{spelling, in_place, tokens_in, put_behind, put_tokens}
 
 -- what was written, and a space behind it if it is not empty
 abbrev pub with_space : List ℕ → List ℕ
@@ -17,25 +17,25 @@ is_escaped c = c == 39 || c == 92
 abbrev pub escaped_char : ℕ → List ℕ
 escaped_char c = if is_escaped c then 92 ∷ encode_utf8 c else encode_utf8 c
 
--- a tree behind what was written, without parentheses of its own
-abbrev pub put_form : Tree → List ℕ → List ℕ
-put_form e out = put_tokens out (tokens_in (shown e))
+-- a filter behind what was written, without parentheses of its own
+abbrev pub put_form : FilterTree → List ℕ → List ℕ
+put_form t out = put_tokens out (tokens_in t)
 
--- a tree behind what was written, in parentheses where it binds more weakly than `l`
-abbrev pub put_tree : ℕ → Tree → List ℕ → List ℕ
-put_tree l e out = put_tokens out (tokens_in (parens_below l (shown e)))
+-- a filter behind what was written, in parentheses where it binds more weakly than `l`
+abbrev pub put_tree : ℕ → FilterTree → List ℕ → List ℕ
+put_tree l t out = put_tokens out (in_place l t (tokens_in t))
 
--- trees, each behind the same word
-abbrev pub put_parts : List ℕ → ℕ → List Tree → List ℕ → List ℕ
+-- filters, each behind the same word
+abbrev pub put_parts : List ℕ → ℕ → List FilterTree → List ℕ → List ℕ
 put_parts word l [] out = out
-put_parts word l (x ∷ xs) out = put_parts word l xs (put_tree l x (put_behind out word))
+put_parts word l (t ∷ ts) out = put_parts word l ts (put_tree l t (put_behind out word))
 
--- trees with the word between each two; for none an empty word
-abbrev pub put_list : List ℕ → ℕ → List Tree → List ℕ → List ℕ
+-- filters with the word between each two; for none an empty word
+abbrev pub put_list : List ℕ → ℕ → List FilterTree → List ℕ → List ℕ
 put_list word l [] out = put_behind out []
-put_list word l (x ∷ xs) out = put_parts word l xs (put_tree l x out)
+put_list word l (t ∷ ts) out = put_parts word l ts (put_tree l t out)
 
--- trees, each behind its sign
+-- filters, each behind its sign
 abbrev pub put_terms : ℕ → List Part → List ℕ → List ℕ
 put_terms l [] out = out
-put_terms l (p ∷ ps) out = put_terms l ps (put_tree l p.1 (put_behind out (spelling (sign_token p.0))))
+put_terms l (p ∷ ps) out = put_terms l ps (put_tree l p.1 (put_behind out (spelling p.0)))

@@ -1,6 +1,6 @@
 use Rattle.std.proofs.Common.{◌≡◌, ◌≤◌, ◌+◌, ◌++◌, [], drop, length, get_or, false, true, rules, arith, sym, ap, ◌∙◌, append_assoc}
 use Rattle.filter_expr.specs.declared.tokens.Token.TheVariants as token
-use Rattle.filter_expr.specs.Trees.{is_unknown}
+use Rattle.filter_expr.specs.Signs.{is_unknown}
 use Rattle.filter_expr.specs.Spelling.{is_blank}
 use Rattle.filter_expr.specs.Lexing.{Taken, token_at, tokens_from}
 use Rattle.filter_expr.proofs.Lexes.{placed_then, lexed_blank, lexed_unknown, lexed_token, lexed_end, token_least, token_most, unknown_is}

@@ -3,7 +3,8 @@ use Rattle.std.specs.List.{prefix_len}
 use Rattle.std.specs.Str.{IsCharBoundary}
 use Rattle.std.proofs.lemmas.List.{take_all}
 use Rattle.std.proofs.lemmas.List.Sums.{prefix_len-le-length}
-use Rattle.filter_expr.specs.Lexing.{is_plain_byte, quoted_text}
+use Rattle.filter_expr.specs.Lexing.{quoted_text}
+use Rattle.filter_expr.specs.inner.Runs.{is_plain_byte}
 use Rattle.filter_expr.proofs.Lexes.{run_cut, plain_ends, escapes_go, escape_none, escape_past}
 use Rattle.filter_expr.proofs.lexer.unescaped.Goals as goal
 

@@ -1,12 +1,12 @@
 use Rattle.std.proofs.Common.{◌≡◌, ℕ, ◌+◌, ◌*◌, ◌≤◌, length, map, false, None}
 use Rattle.filter_expr.specs.declared.parser.Connective.{Connective}
 use Rattle.filter_expr.specs.declared.parser.Connective.TheVariants as connective
-use Rattle.filter_expr.specs.Trees.{sum_chain, product_chain}
-use Rattle.filter_expr.specs.Seen.{seen}
-use Rattle.filter_expr.specs.Reading.{with_front, later, within_depth, starts, next_sign, product_in, unary_in}
-use Rattle.filter_expr.specs.inner.Connectives.{connective_kind, connective_sign, chain_kind, chain_in, part_in}
-use Rattle.filter_expr.specs.inner.Kinds.{is_of}
-use Rattle.filter_expr.specs.inner.SeenParts.{seen_sum, seen_product}
+use Rattle.filter_expr.specs.Signs.{sum_chain, product_chain}
+use Rattle.plain_filters.specs.Filters.{tree_of}
+use Rattle.filter_expr.specs.Reading.{with_front, later, within_depth, starts, product_in, unary_in}
+use Rattle.filter_expr.specs.inner.Connectives.{connective_kind, connective_token, chain_kind, chain_in, part_in}
+use Rattle.filter_expr.specs.inner.Kinds.{is_of, next_sign}
+use Rattle.filter_expr.specs.inner.Parts.{read_sum, read_product}
 use Rattle.filter_expr.proofs.Connectives.{resumed}
 use Rattle.filter_expr.proofs.parser.+parser.Given as goal
 
@@ -41,7 +41,7 @@ decreases-atom l = 16 * l.depth_left + 1
 
 abbrev pub invariant-chain-parts : goal.invariant-chain-parts
 invariant-chain-parts l = record {
-  read : resumed (chain_kind l.connective) (connective_sign l.connective) (map seen l.parts.items)
+  read : resumed (chain_kind l.connective) (connective_token l.connective) (map tree_of l.parts.items)
       (later (chain_kind l.connective) (part_in l.connective (within_depth l.depth_left)) l.stream)
       ≡ chain_in l.connective (within_depth l.depth_left) l.fn.stream;
   some : 1 ≤ length l.parts.items;
@@ -54,7 +54,7 @@ decreases-chain-parts l = length l.stream
 
 abbrev pub invariant-sum-sums : goal.invariant-sum-sums
 invariant-sum-sums l = record {
-  read : with_front (map seen_sum l.parts.items) (later sum_chain (product_in (within_depth l.depth_left)) l.stream)
+  read : with_front (map read_sum l.parts.items) (later sum_chain (product_in (within_depth l.depth_left)) l.stream)
       ≡ later sum_chain (product_in (within_depth l.depth_left)) l.initial.stream;
   many : None ≡ next_sign sum_chain l.stream → 1 ≤ length l.parts.items;
   left : length l.stream ≤ length l.initial.stream;
@@ -65,7 +65,7 @@ decreases-sum-sums l = length l.stream
 
 abbrev pub invariant-product-products : goal.invariant-product-products
 invariant-product-products l = record {
-  read : with_front (map seen_product l.parts.items) (later product_chain (unary_in (within_depth l.depth_left)) l.stream)
+  read : with_front (map read_product l.parts.items) (later product_chain (unary_in (within_depth l.depth_left)) l.stream)
       ≡ later product_chain (unary_in (within_depth l.depth_left)) l.initial.stream;
   many : None ≡ next_sign product_chain l.stream → 1 ≤ length l.parts.items;
   left : length l.stream ≤ length l.initial.stream;

@@ -1,5 +1,4 @@
-use Rattle.filter_expr.proofs.Texts.{one_filter, not_both_of, one_fault}
-use Rattle.filter_expr.proofs.Plain.{some_answer}
+use Rattle.filter_expr.proofs.Texts.{some_answer, one_filter, not_both_of, one_fault}
 use Rattle.filter_expr.proofs.reader.law_one_answer.Goals as goal
 
 pub returns : goal.returns

@@ -1,6 +1,5 @@
-use Rattle.filter_expr.proofs.Only.{one_token_list}
-use Rattle.filter_expr.proofs.Texts.{one_tree}
-use Rattle.filter_expr.proofs.Plain.{some_tokens}
+use Rattle.filter_expr.proofs.Final.{one_tree}
+use Rattle.filter_expr.proofs.Texts.{some_tokens, one_token_list}
 use Rattle.filter_expr.proofs.reader.law_one_tree.Goals as goal
 
 pub returns : goal.returns

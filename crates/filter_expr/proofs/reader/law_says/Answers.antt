@@ -1,4 +1,4 @@
-use Rattle.filter_expr.proofs.Plain.{says_filter, says_fault, filter_said, fault_said}
+use Rattle.filter_expr.proofs.Texts.{says_filter, says_fault, filter_said, fault_said}
 use Rattle.filter_expr.proofs.reader.law_says.Goals as goal
 
 pub returns : goal.returns

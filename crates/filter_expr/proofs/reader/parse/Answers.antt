@@ -1,5 +1,4 @@
-use Rattle.filter_expr.proofs.Texts.{may_answer, answers_tree, answers_fault}
-use Rattle.filter_expr.proofs.Plain.{says}
+use Rattle.filter_expr.proofs.Texts.{may_answer, says, answers_tree, answers_fault}
 use Rattle.filter_expr.proofs.reader.parse.Goals as goal
 
 pub returns : goal.returns
