@@ -1,23 +1,13 @@
 //! Which texts are styles, and the first faults of the others.
+use exit_status::part_text;
 use filter_expr::FilterFault;
 use std::alloc::{AllocError, Global};
-use style_objects::{At, Part, StyleFault, read_style};
-
-fn part(part: Part) -> &'static str {
-    match part {
-        Part::Map => "map",
-        Part::Style => "style",
-        Part::Rule => "rule",
-        Part::Symbolizer => "symbolizer",
-        Part::Layer => "layer",
-        Part::Raster => "raster",
-    }
-}
+use style_objects::{At, StyleFault, read_style};
 
 fn placed(alloc: Global, number: u32, at: At) -> Result<String, AllocError> {
     format!(in alloc;
         "style {number} at {} {} {} {}",
-        part(at.part),
+        part_text(at.part),
         at.first,
         at.second,
         at.third

@@ -31,4 +31,5 @@ pub use laws::{
 pub use raster_faults::{grid_text, ppm_text};
 pub use sinks::{put, report};
 pub use stops::{Stop, refused, unreadable};
+pub use style_faults::part_text;
 pub use told::FaultText;

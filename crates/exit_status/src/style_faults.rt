@@ -31,7 +31,8 @@ impl FaultText for StyleFault {
     }
 }
 
-fn part_text(part: Part) -> &'static str
+/// The word of a part of a style.
+pub fn part_text(part: Part) -> &'static str
     ensures { result.now ≡ spec.part_text part }
 {
     match part {

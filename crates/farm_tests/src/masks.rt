@@ -59,6 +59,20 @@ fn a_square_with_centres_on_its_edges(rt: HostRuntime) {
     assert!(rt; image.pixel(1, 1) == RED && image.pixel(2, 1) == WHITE);
 }
 
+#[test]
+fn the_text_of_an_image(rt: HostRuntime) {
+    let alloc = rt.alloc();
+    let Ok(mut image) = Image::new(alloc, 2, 1, WHITE) else {
+        panic!(rt; "no memory")
+    };
+    image.blend(1, 0, RED, 1000);
+    let Ok(text) = image.write_ppm(alloc) else {
+        panic!(rt; "no memory")
+    };
+    let wanted = b"P6\n2 1\n255\n\xff\xff\xff\xff\x00\x00";
+    assert!(rt; text.as_slice() == wanted.as_slice());
+}
+
 fn put_parts(image: &TiledImage, out: &mut Vec<u8>) -> Result<(), NoMemory>
     requires cols { image.now.cols ≡ 32 }
     requires rows { image.now.rows ≡ 32 }

@@ -1,6 +1,5 @@
 //! The container of a metatile, whose picture is drawn in it.
-ghost use Rattle.std.specs.Prelude.{◌≡◌, ◌+◌, ◌*◌, ◌<◌, ◌≤◌, ◌++◌, ◌^◌, List, length, IfOk, OnOk};
-ghost use Rattle.std.specs.Fmt.{decimal};
+ghost use Rattle.std.specs.Prelude.{◌≡◌, ◌*◌, ◌<◌, ◌≤◌, ◌++◌, List, IfOk, OnOk};
 ghost use Rattle.plain_world.specs.World.{IsMeta, IsTileSize, tiles_across};
 ghost use Rattle.plain_shapes.specs.Features.{Layer};
 ghost use Rattle.plain_drawing.specs.Styles.{MapStyle};
@@ -13,28 +12,11 @@ use farm_base::NoMemory;
 use merc_fixed::tiles_across;
 use meta_container::{HEAD_BYTES, put_head};
 use plain_drawing::MapStyle;
+use plain_image::text_len;
 use plain_world::Meta;
 use std::alloc::Global;
 use tile_render::draw_picture;
 use tiled_image::TiledImage;
-
-#[tactic(auto, using(crate::proofs::Texts::two_digits, crate::proofs::Texts::three_digits))]
-fn digits_of(size: u32) -> u32
-    requires { IsTileSize size }
-    ensures value { result ≡ length (decimal size) }
-    ensures few { result ≤ 3 }
-{
-    if size < 100 { 2 } else { 3 }
-}
-
-#[tactic(auto, using(crate::proofs::Texts::few_pixels))]
-fn text_len(size: u32) -> u32
-    requires { IsTileSize size }
-    ensures value { result ≡ 9 + 2 * length (decimal size) + 3 * (size * size) }
-    ensures few { result < 2 ^ 20 }
-{
-    9 + 2 * digits_of(size) + 3 * (size * size)
-}
 
 fn put_column(
     image: &TiledImage,

@@ -1,4 +1,5 @@
 pub mod Bytes
+pub mod Lengths
 pub mod Painting
 pub mod Cutting
 pub mod Texts

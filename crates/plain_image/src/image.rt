@@ -1,5 +1,6 @@
 //! A picture: one colour for each pixel, by rows.
 use crate::colours::Colours;
+use crate::heads::text_head;
 use crate::{Mask, blending, pixels};
 use farm_base::NoMemory;
 use plain_shapes::Colour;
@@ -125,13 +126,14 @@ impl Image {
 
     /// The image as a binary PPM text (Netpbm's P6): `P6`, a newline, the columns, a space, the rows, a
     /// newline, `255`, a newline, and then three bytes for each pixel, by rows. `read_ppm` gives the image
-    /// back.
+    /// back. No command calls it: the tiles that a command draws are kept as such texts. Its test is
+    /// `the_text_of_an_image` of `farm_tests`.
     pub fn write_ppm(&self, alloc: Global) -> Result<Vec<u8>, NoMemory>
         ensures text { IfOk result
             (λ v. v.items ≡ ppm self.now.cols self.now.rows self.now.pixels) }
         ensures reads_back { IfOk result (λ v. ppm_of v.items ≡ Ok self.now) }
     {
-        let head = pixels::head_of(alloc, self.cols, self.rows)?;
+        let head = text_head(alloc, self.cols, self.rows)?;
         pixels::bytes_after(alloc, head.as_str(), &self.pixels)
     }
 

@@ -15,6 +15,7 @@
 
 mod blending;
 mod colours;
+mod heads;
 mod image;
 mod laws;
 mod mask;
@@ -26,6 +27,7 @@ mod ready_line;
 mod surfaces;
 
 pub use blending::paint_run;
+pub use heads::{text_head, text_len};
 pub use image::Image;
 pub use laws::{law_ppm_faults, law_ppm_images};
 pub use mask::Mask;

@@ -1,7 +1,7 @@
-//! Pixels painted where bits cover them, and as the bytes of a PPM text.
-ghost use Rattle.std.specs.Prelude.{◌≡◌, ℕ, ◌*◌, ◌≤◌, ◌++◌, [], length, IfOk, OnOk, flat_map, string_bytes};
+//! Pixels painted where bits cover them, and as the bytes behind a text.
+ghost use Rattle.std.specs.Prelude.{◌≡◌, ◌*◌, ◌≤◌, ◌++◌, length, IfOk, flat_map};
 ghost use Rattle.plain_shapes.specs.inner.Canvas.{painted};
-ghost use Rattle.plain_shapes.specs.Ppm.{pixel_bytes, ppm};
+ghost use Rattle.plain_shapes.specs.Ppm.{pixel_bytes};
 ghost use Rattle.plain_world.specs.Limits.{most_side};
 
 use crate::blending::over;
@@ -26,29 +26,13 @@ pub fn paint(covered: &[bool], s: Colour, opacity: u32, pixels: &mut Colours)
     }
 }
 
-/// What stands before the pixels of a PPM text: the text of no pixels.
-pub fn head_of(alloc: Global, cols: u32, rows: u32) -> Result<String, NoMemory>
-    ensures { IfOk result (λ head. string_bytes head ≡ ppm cols rows []) }
-{
-    Ok(format!(in alloc; "P6\n{} {}\n255\n", cols, rows)?)
-}
-
-/// Appends a text and then the three bytes of each pixel.
-pub fn put_after(head: &str, pixels: &Colours, out: &mut Vec<u8>) -> Result<(), NoMemory>
-    requires few { length pixels.now ≤ most_side * most_side }
-    ensures { OnOk result
-        (out.new.items ≡ out.old.items ++ head.now ++ flat_map pixel_bytes pixels.now) }
-{
-    out.extend_from_slice(head.as_bytes())?;
-    pixels.write_part(0, pixels.len(), out)
-}
-
 /// A text and then the three bytes of each pixel.
 pub fn bytes_after(alloc: Global, head: &str, pixels: &Colours) -> Result<Vec<u8>, NoMemory>
     requires few { length pixels.now ≤ most_side * most_side }
     ensures { IfOk result (λ v. v.items ≡ head.now ++ flat_map pixel_bytes pixels.now) }
 {
     let mut out = Vec::with_capacity(alloc, head.len() + 3 * pixels.len())?;
-    put_after(head, pixels, &mut out)?;
+    out.extend_from_slice(head.as_bytes())?;
+    pixels.write_part(0, pixels.len(), &mut out)?;
     Ok(out)
 }

@@ -24,8 +24,7 @@ pub trait Surface {
         requires row { j < rows self.old }
         requires end { end ≤ cols self.old }
         ensures bits { Becomes shows (λ old new. new ≡ record old {
-          bits = run_changed (λ _. true)
-              (j * cols self.old + from) (end - from) old.bits;
+          bits = run_changed (λ _. true) (j * cols self.old + from) (end - from) old.bits;
         }) self.old self.new }
         ensures cols { cols self.new ≡ cols self.old }
         ensures rows { rows self.new ≡ rows self.old };

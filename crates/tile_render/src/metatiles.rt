@@ -112,7 +112,9 @@ pub fn draw_picture(
     Ok(canvas.into_image())
 }
 
-/// The tiles of a metatile, each exactly its `draw_tile`, in order of index place.
+/// The tiles of a metatile, each exactly its `draw_tile`, in order of index place. No command calls it: a worker draws
+/// a metatile as its container (`draw_container` of `meta_drawing`), which copies no tile. Its tests are
+/// `four_tiles_of_one_window` and `a_container_drawn_twice` of `farm_tests`.
 #[tactic(auto, using(plain_world::proofs::Windows::size_bounds))]
 pub fn draw_meta(
     alloc: Global,

@@ -10,7 +10,7 @@ ghost use Rattle.plain_world.specs.World.{IsTileSize};
 ghost use Rattle.tiled_image.specs.inner.Blanks.{text_of};
 
 use farm_base::NoMemory;
-use plain_image::{Image, ReadyLine, paint_run};
+use plain_image::{Image, ReadyLine, paint_run, text_head};
 use plain_shapes::Colour;
 use std::alloc::Global;
 use std::marker::Model;
@@ -49,13 +49,6 @@ impl Model for TileTexts {
     ghost invariant = { λ m. AreTexts m.before m.side m.count m.head m.bytes.items };
 }
 
-// What stands before the pixels of a PPM text: the text of no pixels.
-pub(crate) fn head_of(alloc: Global, cols: u32, rows: u32) -> Result<String, NoMemory>
-    ensures { IfOk result (λ head. string_bytes head ≡ ppm cols rows []) }
-{
-    Ok(format!(in alloc; "P6\n{} {}\n255\n", cols, rows)?)
-}
-
 // The text of a tile of one colour, for many of them: its head, and some rows that come so many times. They stay in
 // the nearest cache, where a whole text would be fetched from farther away for each tile.
 #[derive(Drop)]
@@ -70,7 +63,7 @@ fn blank_of(alloc: Global, side: u32, c: Colour) -> Result<Blank, NoMemory>
     ensures head { IfOk result (λ b. string_bytes b.head ≡ ppm side side []) }
     ensures text { IfOk result (λ b. text_of b ≡ ppm side side (replicate (side * side) c)) }
 {
-    let head = head_of(alloc, side, side)?;
+    let head = text_head(alloc, side, side)?;
     let rows = Image::new(alloc, side, ROWS, c)?.into_bytes();
     Ok(Blank {
         head,

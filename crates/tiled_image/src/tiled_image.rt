@@ -3,8 +3,9 @@ ghost use Rattle.std.specs.Prelude.{◌≡◌, ◌+◌, ◌*◌, ◌/◌, ◌%�
 ghost use Rattle.plain_world.specs.World.{IsTileSize};
 ghost use Rattle.plain_shapes.specs.Ppm.{ppm};
 
-use crate::tile_texts::{TileTexts, head_of};
+use crate::tile_texts::TileTexts;
 use farm_base::NoMemory;
+use plain_image::text_head;
 use plain_shapes::Colour;
 use std::alloc::Global;
 use std::marker::Model;
@@ -205,7 +206,7 @@ impl TiledImage {
     {
         // Opened, so that its rows are known to be few.
         let _tiles = &self.texts;
-        let head = head_of(*out.allocator(), cols, rows)?;
+        let head = text_head(*out.allocator(), cols, rows)?;
         out.extend_from_slice(head.as_str().as_bytes())?;
         self.put_rows(col, row, cols, rows, out)
     }
