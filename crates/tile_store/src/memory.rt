@@ -165,7 +165,8 @@ impl MemStore {
     fn keep_half(&mut self, alloc: Global, path: &str, bytes: &[u8]) -> Result<(), NoMemory>
         ensures done { OnOk result
             (self.new ≡ record self.old {
-              held = with_content self.old.held path.now (half bytes.now);
+              held = with_content self.old.held path.now
+                  (half bytes.now);
               put_calls = next_count self.old.put_calls;
               failed = self.old.failed ++ failed_put path.now ∷ [];
             }) }
