@@ -35,6 +35,21 @@ same_parts n a b xs ys fits as_fits each =
     let h : k < n = omega (arith, lt, long) in
     get_or-take n (drop a xs) k d h ∙ get_or-drop a xs k d ∙ each k d h ∙ sym (get_or-drop b ys k d) ∙ sym (get_or-take n (drop b ys) k d h))
 
+-- a run of pixels that lies in one tile
+pub run_cut : {s a : ℕ} (v : Spot s a) (n : ℕ) (tiles : List (List Colour)) → AreTiles s a tiles → v.p + n ≤ s
+    → take n (drop (place_of v) (joined s a tiles)) ≡ take n (drop (inner_of v) (get_or tiles (tile_of v) []))
+run_cut {s} {a} v n tiles are fits =
+    let tile : List Colour = get_or tiles (tile_of v) [] in
+    let last : Spot s a = record { x = v.x; y = v.y; p = v.p + (n - 1); q = v.q; x_in = v.x_in; y_in = v.y_in; p_in = omega (arith, fits, v.p_in); q_in = v.q_in } in
+    let whole : length tile ≡ s * s = are.whole (tile_of v) (tile_in v) in
+    same_parts n (place_of v) (inner_of v) (joined s a tiles) tile (omega (arith, place_in last, place_in v, length_joined s a tiles)) (omega (arith, inner_in last, inner_in v, whole))
+    (λ k d h.
+    let w : Spot s a = record { x = v.x; y = v.y; p = v.p + k; q = v.q; x_in = v.x_in; y_in = v.y_in; p_in = omega (arith, fits, h); q_in = v.q_in } in
+    ap (λ i. get_or (joined s a tiles) i d) (let e : place_of v + k ≡ place_of w = omega arith in e)
+    ∙ joined_at w tiles d
+    ∙ get_or_default tile (inner_of w) black d (omega (arith, inner_in w, whole))
+    ∙ ap (λ i. get_or tile i d) (let e : inner_of w ≡ inner_of v + k = omega arith in e))
+
 -- a row of a tile
 row_cut : (s a x y q : ℕ) (tiles : List (List Colour)) → AreTiles s a tiles → x < a → y < a → q < s
     → take s (drop ((y * s + q) * (s * a) + x * s) (joined s a tiles)) ≡ take s (drop (q * s) (get_or tiles (x * a + y) []))
@@ -50,7 +65,7 @@ row_cut s a x y q tiles are x_in y_in q_in =
     ∙ joined_at w tiles d
     ∙ get_or_default tile (q * s + k) black d (omega (arith, inner_in w, whole)))
 
-take_both : {X : Type 0} (m n : ℕ) (xs : List X) → take m xs ++ take n (drop m xs) ≡ take (m + n) xs
+pub take_both : {X : Type 0} (m n : ℕ) (xs : List X) → take m xs ++ take n (drop m xs) ≡ take (m + n) xs
 take_both zero n xs = ap (λ k. take k xs) (let e : n ≡ 0 + n = omega arith in e)
 take_both (suc m) zero [] = ap (λ k. take k []) (let e : suc m ≡ suc m + 0 = omega arith in e)
 take_both (suc m) (suc n) [] = ap (λ k. take k []) (let e : suc (m + suc n) ≡ suc m + suc n = omega arith in e)

@@ -1,21 +1,23 @@
 -- What the tiles of an image are after each step of painting it.
-use Rattle.std.proofs.Common.{◌≡◌, ℕ, ◌+◌, ◌-◌, ◌*◌, ◌/◌, ◌%◌, ◌^◌, ◌<◌, ◌≤◌, min, List, [], length, get_or, set, replicate, refl, ap, sym, subst, ◌∙◌, arith, length-set}
+use Rattle.std.proofs.Common.{◌≡◌, ℕ, ◌+◌, ◌-◌, ◌*◌, ◌/◌, ◌%◌, ◌^◌, ◌<◌, ◌≤◌, min, List, [], ◌++◌, length, take, drop, flat_map, get_or, set, replicate, refl, ap, sym, subst, ◌∙◌, arith, append_assoc, length-set}
 use Rattle.std.specs.Prelude.{slice_get, Some}
 use Rattle.std.proofs.lemmas.Nat.{mul-le, div-add-mod'}
-use Rattle.std.proofs.lemmas.List.{get_or-replicate, length-replicate}
+use Rattle.std.proofs.lemmas.List.{get_or-replicate, length-replicate, drop-drop}
+use Rattle.std.proofs.lemmas.Grind.{flat_map-append}
 use Rattle.std.proofs.lemmas.List.Elements.{All-set, All-from_get_or}
 use Rattle.std.proofs.lemmas.Option.{slice_get-get_or, get_or_from_slice_get}
 use Rattle.plain_world.specs.World.{IsTileSize}
 use Rattle.plain_world.proofs.Windows.{size_bounds}
 use Rattle.plain_shapes.specs.declared.colour.Colour.{Colour}
 use Rattle.plain_shapes.specs.Images.{Pixels, IsRaster}
+use Rattle.plain_shapes.specs.Ppm.{pixel_bytes}
 use Rattle.plain_image.specs.Runs.{run_changed}
 use Rattle.plain_image.proofs.Runs.{run_length}
 use Rattle.tiled_image.specs.inner.Tiles.{Texts, IsTiled, joined}
 use Rattle.tiled_image.proofs.JoinedRuns.{runs_adjoin}
 use Rattle.tiled_image.proofs.Joined.{Spot, tile_of, inner_of, place_of, black, spot, place_is as place_at, place_in, tile_in, inner_in, length_joined, joined_at}
 use Rattle.tiled_image.proofs.JoinedPaint.{are_tiles, painted_tile}
-use Rattle.tiled_image.proofs.JoinedParts.{image_of, joined_blank}
+use Rattle.tiled_image.proofs.JoinedParts.{image_of, joined_blank, run_cut, take_both}
 
 -- so many columns are few
 pub few_cols : (shift a : ℕ) (t : Texts) → IsTiled shift a t → (1 ≤ t.side * a) × (t.side * a ≤ 4096)
@@ -171,3 +173,41 @@ reached_more f j start from until end shift a tile place old t next r g before u
           ∙ runs_adjoin f k0 (from - start) m old.pixels
           ∙ ap (λ k. run_changed f k0 k old.pixels) all;
     }
+
+-- the part of a row that is in the next tile, behind the part that was put
+pub put_more : (j start from until end shift a tile place : ℕ) (image : Pixels) (t : Texts) (old now next bytes : List ℕ)
+    → IsTiled shift a t → image_of t.side a t.tiles ≡ image → Found shift a from j tile place t → start ≤ from → from < end → until ≡ min end ((from / 2 ^ shift + 1) * 2 ^ shift)
+    → bytes ≡ flat_map pixel_bytes (take (place + (until - from) - place) (drop place (get_or t.tiles tile [])))
+    → now ≡ old ++ flat_map pixel_bytes (take (from - start) (drop (j * image.cols + start) image.pixels)) → next ≡ now ++ bytes
+    → (start ≤ until) × (until ≤ end) × (next ≡ old ++ flat_map pixel_bytes (take (until - start) (drop (j * image.cols + start) image.pixels)))
+put_more j start from until end shift a tile place image t old now next bytes tiled view g low before until_is bytes_are so_far step =
+    let s : ℕ = t.side in
+    let v : Spot s a = g.at in
+    let m : ℕ = until - from in
+    let n : ℕ = from - start in
+    let ps : List Colour = joined s a t.tiles in
+    let k0 : ℕ = j * (s * a) + start in
+    let whole : until ≡ min end ((v.x + 1) * s) =
+    until_is ∙ ap (λ k. min end ((from / k + 1) * k)) (sym tiled.power) ∙ ap (λ k. min end ((k + 1) * s)) (sym g.x_is) in
+    let fits : v.p + m ≤ s = omega (arith, whole, g.col_is, v.p_in) in
+    let more : from ≤ until = omega (arith, whole, g.col_is, v.p_in, before) in
+    let count : place + m - place ≡ m = omega arith in
+    let at : place_of v ≡ k0 + n = omega (arith, g.place_is, low) in
+    let all : n + m ≡ until - start = omega (arith, low, more) in
+    let cut : bytes ≡ flat_map pixel_bytes (take m (drop n (drop k0 ps))) =
+    bytes_are
+    ∙ ap (λ k. flat_map pixel_bytes (take k (drop place (get_or t.tiles tile [])))) count
+    ∙ ap (λ k. flat_map pixel_bytes (take m (drop place (get_or t.tiles k [])))) g.tile_is
+    ∙ ap (λ k. flat_map pixel_bytes (take m (drop k (get_or t.tiles (tile_of v) [])))) g.inner_is
+    ∙ ap (λ us. flat_map pixel_bytes us) (sym (run_cut v m t.tiles (are_tiles shift a t tiled) fits))
+    ∙ ap (λ k. flat_map pixel_bytes (take m (drop k ps))) at
+    ∙ ap (λ us. flat_map pixel_bytes (take m us)) (sym (drop-drop n k0 ps)) in
+    let done : now ≡ old ++ flat_map pixel_bytes (take n (drop k0 ps)) = so_far ∙ ap (λ (i : Pixels). old ++ flat_map pixel_bytes (take n (drop (j * i.cols + start) i.pixels))) (sym view) in
+    let all_put : next ≡ old ++ flat_map pixel_bytes (take (until - start) (drop (j * image.cols + start) image.pixels)) =
+    step ∙ ap (λ bs. bs ++ bytes) done ∙ append_assoc old (flat_map pixel_bytes (take n (drop k0 ps))) bytes
+    ∙ ap (λ bs. old ++ (flat_map pixel_bytes (take n (drop k0 ps)) ++ bs)) cut
+    ∙ ap (λ bs. old ++ bs) (sym (flat_map-append pixel_bytes (take n (drop k0 ps)) (take m (drop n (drop k0 ps)))))
+    ∙ ap (λ us. old ++ flat_map pixel_bytes us) (take_both n m (drop k0 ps))
+    ∙ ap (λ k. old ++ flat_map pixel_bytes (take k (drop k0 ps))) all
+    ∙ ap (λ (i : Pixels). old ++ flat_map pixel_bytes (take (until - start) (drop (j * i.cols + start) i.pixels))) view in
+    (omega (arith, low, more), omega (arith, whole), all_put)

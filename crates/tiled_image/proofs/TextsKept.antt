@@ -122,6 +122,49 @@ colour_there before side count head bytes ts tile k r g b are read lt inside x y
     ∙ get_or-append-add front (flat_map pixel_bytes t ++ back) j d ∙ get_or_append_left (flat_map pixel_bytes t) back d j within in
     at_bytes t k r g b (omega arith) (x ∙ at _ (k * 3) r (omega arith) (omega arith)) (y ∙ at _ (k * 3 + 1) g (omega arith) (omega arith)) (z ∙ at _ (k * 3 + 2) b (omega arith) (omega arith))
 
+-- what stands before a run of a tile, and what behind it
+abbrev run_front : ℕ → ℕ → List ℕ → List (List Colour) → ℕ → ℕ → List ℕ
+run_front before side bytes ts tile start = before_tile before side bytes ts tile ++ flat_map pixel_bytes (take start (get_or ts tile []))
+
+abbrev run_back : ℕ → List (List Colour) → ℕ → ℕ → ℕ → List ℕ
+run_back side ts tile start n = flat_map pixel_bytes (drop n (drop start (get_or ts tile []))) ++ flat_map (ppm side side) (drop (suc tile) ts)
+
+-- a run of a tile stands between these
+record RunIn (before side head : ℕ) (bytes : List ℕ) (ts : List (List Colour)) (tile start n : ℕ) : Type 0 where
+  is : bytes ≡ run_front before side bytes ts tile start ++ (flat_map pixel_bytes (take n (drop start (get_or ts tile []))) ++ run_back side ts tile start n)
+  place : length (run_front before side bytes ts tile start) ≡ before + tile * (head + side * side * 3) + head + start * 3
+  size : length (flat_map pixel_bytes (take n (drop start (get_or ts tile [])))) ≡ n * 3
+
+run_in : (before side count head : ℕ) (bytes : List ℕ) (ts : List (List Colour)) (tile start n : ℕ) → AreTexts before side count head bytes
+    → tiles_in head (side * side) count (drop before bytes) ≡ ts → tile < length ts → start + n ≤ side * side → RunIn before side head bytes ts tile start n
+run_in before side count head bytes ts tile start n are read lt inside =
+    let own = whole_in before side count head bytes ts are read in
+    let front : List ℕ = before_tile before side bytes ts tile in
+    let back : List ℕ = flat_map (ppm side side) (drop (suc tile) ts) in
+    let t : List Colour = get_or ts tile [] in
+    let x : List Colour = take start t in
+    let m : List Colour = take n (drop start t) in
+    let y : List Colour = drop n (drop start t) in
+    let size : length t ≡ side * side = All-get_or (λ t. length t ≡ side * side) ts tile [] lt own.0 in
+    let parts : x ++ m ++ y ≡ t = append_assoc x m y ∙ ap (λ us. x ++ us) (take-append-drop n (drop start t)) ∙ take-append-drop start t in
+    let starts : length front ≡ before + tile * (head + side * side * 3) + head = before_length before side count head bytes ts tile are own.0 (omega arith) in
+    let x_size : length (flat_map pixel_bytes x) ≡ start * 3 = length_written x ∙ ap (λ k. k * 3) (length-take-le start t (omega arith)) in
+    record {
+      is = stands before side count head bytes ts tile are read lt ∙ ap (λ u. front ++ (flat_map pixel_bytes u ++ back)) (sym parts) ∙ regroup front back x m y;
+      place = length-append front (flat_map pixel_bytes x) ∙ ap (λ k. k + length (flat_map pixel_bytes x)) starts ∙ ap (λ k. before + tile * (head + side * side * 3) + head + k) x_size;
+      size = length_written m ∙ ap (λ k. k * 3) (length-take-le n (drop start t) (omega (arith, length-drop start t)));
+    }
+
+-- the bytes of a run
+pub run_there : (before side count head : ℕ) (bytes : List ℕ) (ts : List (List Colour)) (tile start n : ℕ) → AreTexts before side count head bytes
+    → tiles_in head (side * side) count (drop before bytes) ≡ ts → tile < length ts → start + n ≤ side * side
+    → take (n * 3) (drop (before + tile * (head + side * side * 3) + head + start * 3) bytes) ≡ flat_map pixel_bytes (take n (drop start (get_or ts tile [])))
+run_there before side count head bytes ts tile start n are read lt inside =
+    let at : ℕ = before + tile * (head + side * side * 3) + head + start * 3 in
+    let r : RunIn before side head bytes ts tile start n = run_in before side count head bytes ts tile start n are read lt inside in
+    ap (λ bs. take (n * 3) (drop at bs)) r.is
+    ∙ between (run_front before side bytes ts tile start) (flat_map pixel_bytes (take n (drop start (get_or ts tile [])))) (run_back side ts tile start n) at (n * 3) r.place r.size
+
 -- a run painted
 pub painted : (before side count head : ℕ) (bytes old new next : List ℕ) (ts : List (List Colour)) (f : Colour → Colour) (tile start n : ℕ) → AreTexts before side count head bytes
     → tiles_in head (side * side) count (drop before bytes) ≡ ts → tile < length ts → start + n ≤ side * side
@@ -137,20 +180,14 @@ painted before side count head bytes old new next ts f tile start n are read lt 
     let m : List Colour = take n (drop start t) in
     let y : List Colour = drop n (drop start t) in
     let at : ℕ = before + tile * (head + side * side * 3) + head + start * 3 in
-    let p : List ℕ = front ++ flat_map pixel_bytes x in
-    let q : List ℕ = flat_map pixel_bytes y ++ back in
+    let p : List ℕ = run_front before side bytes ts tile start in
+    let q : List ℕ = run_back side ts tile start n in
+    let r : RunIn before side head bytes ts tile start n = run_in before side count head bytes ts tile start n are read lt inside in
     let size : length t ≡ side * side = All-get_or (λ t. length t ≡ side * side) ts tile [] lt own.0 in
-    let parts : x ++ m ++ y ≡ t = append_assoc x m y ∙ ap (λ us. x ++ us) (take-append-drop n (drop start t)) ∙ take-append-drop start t in
-    let is : bytes ≡ p ++ (flat_map pixel_bytes m ++ q) =
-    stands before side count head bytes ts tile are read lt ∙ ap (λ u. front ++ (flat_map pixel_bytes u ++ back)) (sym parts) ∙ regroup front back x m y in
-    let starts : length front ≡ before + tile * (head + side * side * 3) + head = before_length before side count head bytes ts tile are own.0 (omega arith) in
-    let x_size : length (flat_map pixel_bytes x) ≡ start * 3 = length_written x ∙ ap (λ k. k * 3) (length-take-le start t (omega arith)) in
-    let place : length p ≡ at = length-append front (flat_map pixel_bytes x) ∙ ap (λ k. k + length (flat_map pixel_bytes x)) starts ∙ ap (λ k. before + tile * (head + side * side * 3) + head + k) x_size in
-    let m_size : length (flat_map pixel_bytes m) ≡ n * 3 = length_written m ∙ ap (λ k. k * 3) (length-take-le n (drop start t) (omega (arith, length-drop start t))) in
-    let old_m : old ≡ flat_map pixel_bytes m = old_is ∙ ap (λ bs. take (n * 3) (drop at bs)) is ∙ between p (flat_map pixel_bytes m) q at (n * 3) place m_size in
+    let old_m : old ≡ flat_map pixel_bytes m = old_is ∙ run_there before side count head bytes ts tile start n are read lt inside in
     let new_m : new ≡ flat_map pixel_bytes (map f m) = new_is ∙ ap (λ bs. flat_map pixel_bytes (map f (colours bs))) old_m ∙ ap (λ us. flat_map pixel_bytes (map f us)) (colours_written m) in
     let after : next ≡ take before bytes ++ flat_map (ppm side side) (set ts tile (run_changed f start n t)) =
-    next_is ∙ ap (λ bs. put_mid at (n * 3) bs new) is ∙ put_between p (flat_map pixel_bytes m) q new at (n * 3) place m_size ∙ ap (λ bs. p ++ (bs ++ q)) new_m
+    next_is ∙ ap (λ bs. put_mid at (n * 3) bs new) r.is ∙ put_between p (flat_map pixel_bytes m) q new at (n * 3) r.place r.size ∙ ap (λ bs. p ++ (bs ++ q)) new_m
     ∙ sym (regroup front back x (map f m) y) ∙ sym (put_there before side bytes ts tile (run_changed f start n t) lt) in
     made before side count head (take before bytes) next (set ts tile (run_changed f start n t)) are.room are.some are.small are.few are.head_is (length-take-le before bytes are.before_fits)
     (All-set (λ t. length t ≡ side * side) ts tile (run_changed f start n t) (run_length f start n t ∙ size) own.0) (length-set ts tile (run_changed f start n t) ∙ own.1) after

@@ -1,5 +1,5 @@
 //! Square tiles that are kept as their PPM texts, one behind another.
-ghost use Rattle.std.specs.Prelude.{◌≡◌, ℕ, ◌+◌, ◌-◌, ◌*◌, ◌^◌, ◌≤◌, ◌<◌, ◌++◌, List, [], length, drop, map, flat_map, replicate, slice_get, slice_set, slice_index_or, Some, IfOk, OnOk, string_bytes};
+ghost use Rattle.std.specs.Prelude.{◌≡◌, ℕ, ◌+◌, ◌-◌, ◌*◌, ◌^◌, ◌≤◌, ◌<◌, ◌++◌, List, [], length, take, drop, map, flat_map, replicate, slice_get, slice_set, slice_index_or, Some, IfOk, OnOk, string_bytes};
 ghost use Rattle.plain_shapes.specs.declared.colour.Colour.{Colour};
 ghost use Rattle.plain_shapes.specs.Blending.{blend};
 ghost use Rattle.plain_shapes.specs.Ppm.{pixel_bytes, ppm};
@@ -182,6 +182,19 @@ impl TileTexts {
             g: self.bytes[at + 1],
             b: self.bytes[at + 2],
         }
+    }
+
+    /// The bytes of the colours of a tile from the place `start` on and before the place `end`.
+    pub(crate) fn run(&self, tile: usize, start: usize, end: usize) -> &[u8]
+        requires tile { tile < length self.now.tiles }
+        requires order { start ≤ end }
+        requires inside { end ≤ self.now.side * self.now.side }
+        ensures { result.now ≡ flat_map pixel_bytes
+            (take (end - start) (drop start (slice_index_or self.now.tiles tile []))) }
+    {
+        let pixels = (self.side * self.side) as usize;
+        let at = pixels_at(self.before, self.head, pixels, tile);
+        &self.bytes[at + start * 3..at + end * 3]
     }
 
     /// Paints the colours of a tile from the place `start` on and before the place `end` over with the colour `c`.

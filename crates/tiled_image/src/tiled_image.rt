@@ -35,8 +35,7 @@ impl Model for TiledImage {
 
     ghost view = { λ m. record {
       cols = m.texts.side * m.grid.across;
-      rows = m.texts.side
-          * m.grid.across;
+      rows = m.texts.side * m.grid.across;
       pixels = joined m.texts.side m.grid.across m.texts.tiles;
     } };
 
@@ -255,9 +254,13 @@ impl TiledImage {
         ensures { OnOk result (out.new.items ≡ out.old.items ++ flat_map pixel_bytes
             (take (end - start) (drop (j * self.now.cols + start) self.now.pixels))) }
     {
-        for i in start..end {
-            let c = self.pixel(i, j);
-            out.extend_from_slice(&[c.r, c.g, c.b])?;
+        let mut from = start;
+        while from < end {
+            let to = end.min(self.grid.tile_end(from));
+            let tile = self.grid.tile_at(from, j);
+            let place = self.grid.place_at(from, j);
+            out.extend_from_slice(self.texts.run(tile, place, place + (to - from) as usize))?;
+            from = to;
         }
         Ok(())
     }
