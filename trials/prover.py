@@ -57,7 +57,9 @@ class Prover:
         at = lambda *names: os.path.join(self.kit, *names)
         words = [at("bin", "rattle"), "check", "--crate-name", self.crate, self.root(), "--extern", "std=" + at("rlibs", "std.rlib")]
         for name in self.sources:
-            words += ["--lib", "%s:%s=%s" % (name, ",".join(["core", *self.known[name]]), os.path.join(self.below_at(name), "src", "lib.rt"))]
+            words += ["--lib", "%s:%s=%s" % (name, ",".join(["core", "std", *self.known[name]]), os.path.join(self.below_at(name), "src", "lib.rt"))]
+        if self.sources:
+            words += ["--extern", "core=" + at("rlibs", "core.rlib")]
         for name in dict.fromkeys(use for crate in (self.crate, *self.sources) for use in self.known[crate] if use not in self.sources):
             words += ["--extern", "%s=%s" % (name, os.path.join(self.links if name in self.known else at("rlibs"), name + ".rlib"))]
         words += ["-L", "dependency=" + at("rlibs"), "-L", "dependency=" + self.links, "--links", self.crate + "=", "--jobs", "1"]
