@@ -21,23 +21,28 @@ def uses(top):
 
 
 class Prover:
-    """The prover over a copy of a crate in that folder; the libraries are those below `libs` (crates/NAME/out/rlib/NAME.rlib)."""
+    """The prover over a copy of a crate in that folder; the libraries are those below `libs` (crates/NAME/out/rlib/NAME.rlib), and
+    of the crates in `sources` copies too."""
 
-    def __init__(self, crate, libs, folder):
-        self.crate, self.folder = crate, folder
+    def __init__(self, crate, libs, folder, sources=()):
+        self.crate, self.folder, self.sources = crate, folder, sources
         rt = shutil.which("rt") or "/opt/rattle/bin/rt"
         self.kit = os.path.dirname(os.path.dirname(os.path.realpath(rt)))
-        for part in ("src", "specs", "proofs"):
-            if os.path.isdir(os.path.join(TOP, "crates", crate, part)):
-                shutil.copytree(os.path.join(TOP, "crates", crate, part), os.path.join(folder, part))
+        for name, to in [(crate, folder)] + [(name, self.below_at(name)) for name in sources]:
+            for part in ("src", "specs", "proofs"):
+                if os.path.isdir(os.path.join(TOP, "crates", name, part)):
+                    shutil.copytree(os.path.join(TOP, "crates", name, part), os.path.join(to, part))
         self.links = os.path.join(folder, "links")
         os.mkdir(self.links)
         self.known = uses(TOP)
-        for name in self.below(crate):
+        for name in [name for name in self.below(crate) if name not in sources]:
             at = os.path.join(libs, "crates", name, "out", "rlib", name + ".rlib")
             if not os.path.exists(os.path.join(at, "format")):
                 raise SystemExit("%s is not built: run rt ci, or name a folder by --libs" % name)
             os.symlink(at, os.path.join(self.links, name + ".rlib"))
+
+    def below_at(self, crate):
+        return os.path.join(self.folder, "below", crate)
 
     def below(self, crate):
         found = {}
@@ -51,7 +56,11 @@ class Prover:
         makes that, if it keeps anything."""
         at = lambda *names: os.path.join(self.kit, *names)
         words = [at("bin", "rattle"), "check", "--crate-name", self.crate, self.root(), "--extern", "std=" + at("rlibs", "std.rlib")]
-        for name in self.known[self.crate]:
+        for name in self.sources:
+            words += ["--lib", "%s:%s=%s" % (name, ",".join(["core", "std", *self.known[name]]), os.path.join(self.below_at(name), "src", "lib.rt"))]
+        if self.sources:
+            words += ["--extern", "core=" + at("rlibs", "core.rlib")]
+        for name in dict.fromkeys(use for crate in (self.crate, *self.sources) for use in self.known[crate] if use not in self.sources):
             words += ["--extern", "%s=%s" % (name, os.path.join(self.links if name in self.known else at("rlibs"), name + ".rlib"))]
         words += ["-L", "dependency=" + at("rlibs"), "-L", "dependency=" + self.links, "--links", self.crate + "=", "--jobs", "1"]
         words += [word for flag, place in LOGIC for word in (flag, at(place))] + [word for path in only for word in ("--only", path)]

@@ -1,6 +1,7 @@
 -- What a call promises. `was` is what it was handed, `is` what it left; `state` shows a store at a
--- moment. A history of turns is a list of pairs, a seat's number and an entry, in the order of the
--- turns: seat 0 is the call's own, seats 1 to 3 are those of the renderd front, the tile front and
+-- moment. A history of turns is a list of pairs, a seat's number and an entry, the first turn first,
+-- as the cell counted them; `whole_history` is what happened as the promise says it, the newest entry
+-- first. Seat 0 is the call's own, seats 1 to 3 are those of the renderd front, the tile front and
 -- the control front, and seat w + 4 is that of worker w.
 use Rattle.std.specs.Prelude.{◌≡◌, ◌≢◌, ◌⊎◌, ℕ, ◌≤◌, true, false}
 use Rattle.std.specs.Prelude.{List, [], length, Option, None, is_some, option_map}

@@ -1,5 +1,5 @@
 -- What is promised of a farm that was served. `was` is what the call was handed, `is` what it left; `state` shows a store at a moment; `farm` is the farm that is left, and `turns` the history of its turns: a list of
--- pairs, a seat's number and an entry, in the order of the turns. Seat 0 is the call's own, seats 1 to 3 are those of the renderd front, the tile front and the control front, and seat w + 4 is that of worker w.
+-- pairs, a seat's number and an entry, the first turn first, as the cell counted them; so are the entries of a front and of a worker. `whole_history` is what happened as the promise says it, the newest entry first. Seat 0 is the call's own, seats 1 to 3 are those of the renderd front, the tile front and the control front, and seat w + 4 is that of worker w.
 use Rattle.std.specs.Prelude.{◌≡◌, ℕ, ◌≤◌, Bool, true, false, not, ◌||◌, is_none}
 use Rattle.std.specs.Prelude.{List, [], ◌∷◌, ◌++◌, length, map, reverse, Some}
 use Rattle.std.specs.Prelude.{Ok, Err, IfSome}

@@ -1,11 +1,16 @@
 -- What a farm promises: four sentences over one word, `Drawing`. Each is said of a whole history h,
--- whose newest entry stands first: in `h ≡ later ++ e ∷ g` the entry e is one of h, g is what came
--- before it, and `later` what came after it. `tells` says that the store tells what it holds; what
--- is said of bytes needs it, and nothing else does. These words may be taken by their names:
--- key_of, map_of, spot_tile: the metatile of a spot with its map, its map, its tile; version: how
--- many updates succeeded; data_after: which did, in order; style_after: the style that a map was
--- last given; is_clean: a drawing of the key is stored and shown, and nothing has touched the key
--- since its Claim; drawn_tile: the picture of a tile, pixel by pixel.
+-- whose newest entry stands first, as in every list of entries here: in `h ≡ later ++ e ∷ g` the
+-- entry e is one of h, g is what came before it, and `later` what came after it; its place is the
+-- number of those before it, `length g`. A metatile is being drawn from the Claim that gives it to
+-- a worker, with a ticket, to the Finish of that ticket. `tells` says that the store tells what it
+-- holds; what is said of bytes needs it, and nothing else does. These words may be taken by their
+-- names: key_of, map_of, spot_tile: the metatile of a spot with its map, its map, its tile;
+-- version: how many updates succeeded; data_after: which did, the first of them first; data_of: the
+-- plan's data with these made; style_after: the style that a map was last given; styled_as: the map
+-- in that style; is_clean: of the drawings of the key that were stored or could not be put the last
+-- was stored, and nothing has touched the key since its Claim; number_in: the number that an ask
+-- was given, by which its reply names it; drawn_tile: the picture of a tile, pixel by pixel;
+-- plan_of: what of the plan a history depends on.
 use Rattle.std.specs.Prelude.{ℕ, Bool, true, false, ◌≡◌, ◌==◌, ◌||◌, List, [], ◌∷◌, ◌++◌, length, slice_get, Some}
 use Rattle.plain_drawing.specs.Drawing.{drawn_tile}
 use Rattle.farm_history.specs.declared.keys.Key.{Key}
