@@ -22,8 +22,8 @@ returns-in-Ok-clause-does g c =
     (put_says c.put_status.result (status_answer c.in-Ok.looked) c.args.response.now.items c.put_status.new.response.items c.disposition_of_put.result c.requires.empty c.put_status.ensures
     c.disposition_of_put.ensures))
 
-pub returns-in-Ok-ask-clause-does : goal.returns-in-Ok-ask-clause-does
-returns-in-Ok-ask-clause-does g c =
-    as_http_ask _ _ _ _ _ _ _ _ c.in-Dirty.is (did_mark c.args.conn c.in-Dirty.spot c.in-Ok-ask.field-0 _ _ _ _ _ c.in-Ok-ask.ensures.takes refl
+pub returns-in-Ok-turn-clause-does : goal.returns-in-Ok-turn-clause-does
+returns-in-Ok-turn-clause-does g c =
+    as_http_ask _ _ _ _ _ _ _ _ c.in-Dirty.is (did_mark c.args.conn c.in-Dirty.spot c.in-Ok-turn.field-0 _ _ _ _ _ c.in-Ok-turn.ensures.takes refl
     (put_says c.put_dirty.result dirty_answer c.args.response.now.items c.put_dirty.new.response.items c.disposition_of_put-in-Dirty.result c.requires.empty c.put_dirty.ensures
     c.disposition_of_put-in-Dirty.ensures))
