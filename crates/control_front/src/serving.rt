@@ -11,7 +11,8 @@ use control_handler::Control;
 use expiry_lists::TileList;
 use farm_base::Bell;
 use farm_shared::{Alarms, Seat, SharedFarm};
-use front_adapter::FarmAdapter;
+use front_adapter::{FarmAdapter, serve_shared};
+use front_loop::Context;
 use port_events::{FrontDone, Ports};
 use std::alloc::Global;
 use std::sync::Wait;
@@ -37,9 +38,16 @@ pub fn serve<R: Wait, P: Ports, B: Bell, D: TileStore>(
     ensures seat { IsSeatOf farm.now seat.new }
     ensures same { SameSeat seat.old seat.new }
     ensures known { Knows seat.new }
-    ensures served { FrontRun (control_rules front lists.now) (P.state ports.old).told (P.state ports.new).told (plain seat.new.mine) result.end result.rests.items result.starved seat.new.worn }
+    ensures served { FrontRun (control_rules front lists.now) (P.state ports.old).told (P.state ports.new).told
+        (plain seat.new.mine) result.end result.rests.items result.starved seat.new.worn }
     ensures broken { result.end ≡ ended.Broken → Counted (P.state ports.old).faults (P.state ports.new).faults }
 {
     let adapter = FarmAdapter { farm, alarms };
-    front_loop::serve(rt, alloc, &Control { front, lists }, &adapter, seat, ports)
+    let work = Context {
+        rt,
+        alloc,
+        front: &Control { front, lists },
+        farm: &adapter,
+    };
+    serve_shared(&work, seat, ports)
 }

@@ -10,7 +10,8 @@ ghost use Rattle.renderd_handler.specs.Renderd.{renderd_rules};
 
 use farm_base::Bell;
 use farm_shared::{Alarms, Seat, SharedFarm};
-use front_adapter::FarmAdapter;
+use front_adapter::{FarmAdapter, serve_shared};
+use front_loop::Context;
 use port_events::{FrontDone, Ports};
 use renderd_handler::Renderd;
 use std::alloc::Global;
@@ -36,9 +37,16 @@ pub fn serve<R: Wait, P: Ports, B: Bell, D: TileStore>(
     ensures seat { IsSeatOf farm.now seat.new }
     ensures same { SameSeat seat.old seat.new }
     ensures known { Knows seat.new }
-    ensures served { FrontRun (renderd_rules front (maps_of farm.now)) (P.state ports.old).told (P.state ports.new).told (plain seat.new.mine) result.end result.rests.items result.starved seat.new.worn }
+    ensures served { FrontRun (renderd_rules front (maps_of farm.now)) (P.state ports.old).told (P.state ports.new).told
+        (plain seat.new.mine) result.end result.rests.items result.starved seat.new.worn }
     ensures broken { result.end ≡ ended.Broken → Counted (P.state ports.old).faults (P.state ports.new).faults }
 {
     let adapter = FarmAdapter { farm, alarms };
-    front_loop::serve(rt, alloc, &Renderd { front }, &adapter, seat, ports)
+    let work = Context {
+        rt,
+        alloc,
+        front: &Renderd { front },
+        farm: &adapter,
+    };
+    serve_shared(&work, seat, ports)
 }
