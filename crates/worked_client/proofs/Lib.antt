@@ -1,0 +1,5 @@
+mod Lists
+mod Answers
+mod Moving
+mod Asking
+mod Client
