@@ -1,4 +1,5 @@
 -- What serves inner contracts alone: how the marks are kept.
+pub mod Hashing
 pub mod Keeping
 pub mod Nodes
 pub mod Tiles

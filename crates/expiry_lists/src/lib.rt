@@ -9,6 +9,7 @@
 
 mod boxes;
 mod faults;
+mod hashing;
 mod keeping;
 mod lists;
 mod marks;

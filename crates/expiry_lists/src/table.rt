@@ -7,6 +7,7 @@ ghost use Rattle.indexmap.specs.IndexMap.{set_value_at};
 ghost use Rattle.farm_history.specs.Plans.{same_key};
 ghost use Rattle.expiry_lists.specs.inner.Nodes.{node_of, spot_of};
 
+use crate::hashing::KeyHashing;
 use crate::nodes::{Node, Spot};
 use farm_base::NoMemory;
 use farm_history::Key;
@@ -18,8 +19,8 @@ use std::marker::Model;
 /// The nodes by their keys, and the spots by theirs. Each keeps its place.
 #[derive(Drop)]
 pub struct Nodes {
-    map: IndexMap<Key, Node>,
-    spots: IndexMap<Key, Spot>,
+    map: IndexMap<Key, Node, KeyHashing>,
+    spots: IndexMap<Key, Spot, KeyHashing>,
 }
 
 impl Model for Nodes {
@@ -38,8 +39,8 @@ impl Nodes {
         ensures spots { result.spots ≡ [] }
     {
         Nodes {
-            map: IndexMap::new(alloc),
-            spots: IndexMap::new(alloc),
+            map: IndexMap::with_hasher(alloc, KeyHashing),
+            spots: IndexMap::with_hasher(alloc, KeyHashing),
         }
     }
 
