@@ -14,7 +14,8 @@ REPEATS = int(os.environ.get("REPEATS", "5"))
 MIDDLE = WORLD // 2
 SHORE = [MIDDLE + 3 * 2**23, MIDDLE + 2**24]
 
-# ---- shapes: a feature is (kind, "polygon" | "lines" | "points", coordinates)
+# ---- shapes: a feature is (kind, "polygon" | "lines" | "points", coordinates), where the kind is a number, or all its
+# attributes by their names
 
 
 def metatile(z, x, y):
@@ -243,8 +244,23 @@ def roads_on_base():
     return {"all": [(0, "lines", [along(draw, west + draw.randrange(side), north + draw.randrange(side), 20 * pixel, 12)]) for _ in range(2000)]}
 
 
-# ---- styles: for each layer of data some rules (kind or None for the rest, symbolizers, and maybe the least and the
-# greatest scale denominator)
+# Thirty attributes, as extracts of maps have them, each with one of six words.
+NAMES = "highway surface lanes maxspeed oneway bridge tunnel layer access foot bicycle horse service junction lit width smoothness tracktype sidewalk cycleway railway waterway landuse natural leisure amenity building operator ref name".split()
+WORDS = "yes no primary residential unclassified construction".split()
+
+
+def tagged(count):
+    """Small squares with thirty attributes in the metatile of zoom 14 at the middle."""
+    west, north, side, pixel = metatile(14, 2**13, 2**13)
+    draw, made = random.Random(11), []
+    for _ in range(count):
+        x, y, wide = west + draw.randrange(side), north + draw.randrange(side), pixel * (2 + draw.randrange(6))
+        made.append(({name: draw.choice(WORDS) for name in NAMES}, "polygon", [[[x, y], [x + wide, y], [x + wide, y + wide], [x, y + wide]]]))
+    return {"all": made}
+
+
+# ---- styles: for each layer of data some rules (kind, the text of a filter, or None for the rest; symbolizers; and maybe
+# the least and the greatest scale denominator)
 
 # A layer that more than one style draws, each a list of rules; and one that draws the data of another name.
 Styled = collections.namedtuple("Styled", "styles")
@@ -292,6 +308,24 @@ def layers_over_one(count):
     return {"layer%d" % kind: Over("all", [(kind, [fill("#336699")])]) for kind in range(count)}
 
 
+def nested(draw, depth):
+    """A filter of 2 ** depth comparisons of texts, in turn parts of `and` and of `or`."""
+    if depth == 0:
+        return "[%s] = '%s'" % (draw.choice(NAMES), draw.choice(WORDS))
+    return "(%s %s %s)" % (nested(draw, depth - 1), ("and", "or")[depth % 2], nested(draw, depth - 1))
+
+
+def deep():
+    """Twenty rules whose filters are 32 comparisons of texts, nested five deep."""
+    draw = random.Random(12)
+    return {"all": [(nested(draw, 5), [fill("#%02x6699" % (12 * rule))]) for rule in range(20)]}
+
+
+def many_rules(count):
+    """The style of `tilefarm load` with so many rules for each of its layers, of which the last four match."""
+    return {name: [(4 + count - rule, they) for rule in range(count - 4) for they in [of[0][1]]] + of for name, of in load_style().items()}
+
+
 # what is drawn, how, at which zooms, and round which point
 HERE = [MIDDLE, MIDDLE]
 FAR = [MIDDLE // 2, MIDDLE // 2]
@@ -326,6 +360,8 @@ CASES = {
     "layers64": (lambda: scattered(1000000, 64), layers_over_one(64), [18], HERE),
     "layers64_far": (lambda: scattered(1000000, 64), layers_over_one(64), [18], FAR),
     "inactive": (lambda: squares(100000), beside_others(20), [12, 14], HERE),
+    "deep": (lambda: tagged(20000), deep(), [14], HERE),
+    "rules200": (lambda: generated(10000), many_rules(200), [14], HERE),
     "base": (roads_on_base, {"base": [(None, [{"symbolizer": "RasterSymbolizer", "opacity": "1"}])]} | one(stroke("#ffffff", 2)), [12, 14, 16, 18], HERE),
     "elsewhere": (lambda: mixed(100000), TWELVE, [18], HERE),
     "nothing": (lambda: {"all": []}, one(fill("#336699")), [14], HERE),
@@ -349,8 +385,17 @@ def source_of(name, rules):
     return rules.source if isinstance(rules, Over) else name
 
 
+def filter_of(kind):
+    """The filter of a rule, as both read it."""
+    return kind if isinstance(kind, str) else "[kind] = %d" % kind
+
+
+def attrs_of(kind):
+    return kind if isinstance(kind, dict) else {"kind": kind}
+
+
 def our_rule(kind, symbolizers, scales=None):
-    said = {"ElseFilter": True} if kind is None else {"Filter": "[kind] = %d" % kind}
+    said = {"ElseFilter": True} if kind is None else {"Filter": filter_of(kind)}
     if scales:
         said |= {"MinScaleDenominator": str(scales[0]), "MaxScaleDenominator": str(scales[1])}
     return said | {"symbolizers": symbolizers}
@@ -359,7 +404,7 @@ def our_rule(kind, symbolizers, scales=None):
 def ours(features, style):
     layers = []
     for name, items in features.items():
-        layers.append({"name": name, "features": [{"id": n, "geometry": {shape: at}, "attrs": {"kind": kind}} for n, (kind, shape, at) in enumerate(items)]})
+        layers.append({"name": name, "features": [{"id": n, "geometry": {shape: at}, "attrs": attrs_of(kind)} for n, (kind, shape, at) in enumerate(items)]})
     styles, shown = [], []
     for name, rules in style.items():
         they = styles_of(name, rules)
@@ -393,7 +438,7 @@ def turned(at):
 
 
 def mapnik_rule(kind, symbolizers, scales=None):
-    out = ["<Rule>" + ("<ElseFilter/>" if kind is None else "<Filter>[kind] = %d</Filter>" % kind)]
+    out = ["<Rule>" + ("<ElseFilter/>" if kind is None else "<Filter>%s</Filter>" % filter_of(kind))]
     if scales:
         out.append("<MinScaleDenominator>%d</MinScaleDenominator><MaxScaleDenominator>%d</MaxScaleDenominator>" % scales)
     for it in symbolizers:
@@ -423,7 +468,7 @@ def put_mapnik_data(name, items, folder, shared):
     """The file of a source, and an index of it where many layers share it."""
     file = "%s/%s.geojson" % (folder, name)
     kinds = {"polygon": "Polygon", "lines": "MultiLineString", "points": "MultiPoint"}
-    they = [{"type": "Feature", "properties": {"kind": kind}, "geometry": {"type": kinds[shape], "coordinates": [it + it[:1] for it in turned(at)] if shape == "polygon" else turned(at)}} for kind, shape, at in items]
+    they = [{"type": "Feature", "properties": attrs_of(kind), "geometry": {"type": kinds[shape], "coordinates": [it + it[:1] for it in turned(at)] if shape == "polygon" else turned(at)}} for kind, shape, at in items]
     with open(file, "w") as out:
         out.write(json.dumps({"type": "FeatureCollection", "features": they}))
     if os.path.exists(file + ".index"):

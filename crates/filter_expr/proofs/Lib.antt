@@ -8,6 +8,7 @@ pub mod Lexes
 pub mod Local
 pub mod Loops
 pub mod Nodes
+pub mod Numbers
 pub mod Sound
 pub mod Spelled
 pub mod Texts

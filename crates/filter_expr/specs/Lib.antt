@@ -1,6 +1,8 @@
 pub mod FilterTexts
 pub mod Filters
 pub mod Lexing
+pub mod Looked
+pub mod Numbered
 pub mod Reading
 pub mod Signs
 pub mod Spelled

@@ -51,6 +51,7 @@ fn borrowed(v: &Value) -> ValueRef<'_>
     }
 }
 
+#[inline]
 fn same(v: ValueRef<'_>, w: ValueRef<'_>) -> bool
     ensures { result ≡ same (plain v.entry) (plain w.entry) }
 {
@@ -86,6 +87,7 @@ fn below(v: ValueRef<'_>, w: ValueRef<'_>) -> bool
 }
 
 /// What the sign tests of the two values.
+#[inline]
 pub fn compares(sign: CompareSign, v: ValueRef<'_>, w: ValueRef<'_>) -> bool
     ensures { result ≡ compares sign (plain v.entry) (plain w.entry) }
 {
