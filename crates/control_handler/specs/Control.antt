@@ -66,20 +66,32 @@ pub record LineDone : Type 0 where
 
 -- what is made of it with all its entries
 abbrev pub whole_line : Line → List Entry → Option (List ℕ) → LineDone
-whole_line asked entries answer = record { line = asked; entries = entries; answer = answer; fits = true; whole = true }
+whole_line asked entries answer = record {
+  line = asked;
+  entries = entries;
+  answer = answer;
+  fits = true;
+  whole = true;
+}
 
 -- **The lines, their entries and their answers.** `expire N` has an Expire for each tile of its list, in order, and a worn
 -- turn leaves it without the last of them.
 abbrev pub line_done : List (List Tile) → Act → LineDone
-line_done lists (Updates n answer) = whole_line (line.Update n) (Update n answer ∷ []) (update_text answer)
-line_done lists (Restyles n answer) = whole_line (line.Restyle n) (Restyle n answer ∷ []) (Some (restyle_text answer))
-line_done lists (Renews n answer) = whole_line (line.Renew n) (Renew n answer ∷ []) (renew_text answer)
+line_done lists (Updates n answer) =
+    whole_line (line.Update n) (Update n answer ∷ []) (update_text answer)
+line_done lists (Restyles n answer) =
+    whole_line (line.Restyle n) (Restyle n answer ∷ []) (Some (restyle_text answer))
+line_done lists (Renews n answer) =
+    whole_line (line.Renew n) (Renew n answer ∷ []) (renew_text answer)
 line_done lists (Expires n counts) =
-    record (whole_line (line.Expire n) (map (λ (p : Tile × ℕ). Expire p.0 p.1) (zip (tiles_at lists n) counts)) (Some (expire_text (slice_get lists n) counts))) {
+    record (whole_line (line.Expire n)
+    (map (λ (p : Tile × ℕ). Expire p.0 p.1) (zip (tiles_at lists n) counts))
+    (Some (expire_text (slice_get lists n) counts))) {
       fits = nat_le (length counts) (length (tiles_at lists n));
       whole = length counts == length (tiles_at lists n);
     }
-line_done lists (Counts totals) = whole_line line.Stats (Tally totals ∷ []) (Some (tally_line totals))
+line_done lists (Counts totals) =
+    whole_line line.Stats (Tally totals ∷ []) (Some (tally_line totals))
 line_done lists Stops = whole_line line.Stop (Stop ∷ []) (Some stop_line)
 line_done lists Refuses = whole_line line.Bad [] (Some (codes "bad line\n"))
 

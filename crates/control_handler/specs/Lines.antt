@@ -23,14 +23,20 @@ with_number make number = unwrap_or (option_map make number) line.Bad
 -- the line of this name with these words behind it
 unfoldable pub command_named : List ℕ → List ℕ → Line
 command_named name words =
-    if bytes_eq name (codes "update") then with_number line.Update (decimal_below (2 ^ 32) words) else
-    if bytes_eq name (codes "restyle") then with_number line.Restyle (decimal_below (2 ^ 32) words) else
-    if bytes_eq name (codes "renew") then with_number line.Renew (decimal_below (2 ^ 32) words) else
-    if bytes_eq name (codes "expire") then with_number line.Expire (decimal_below (2 ^ 32) words) else line.Bad
+    if bytes_eq name (codes "update")
+    then with_number line.Update (decimal_below (2 ^ 32) words) else
+    if bytes_eq name (codes "restyle")
+    then with_number line.Restyle (decimal_below (2 ^ 32) words) else
+    if bytes_eq name (codes "renew")
+    then with_number line.Renew (decimal_below (2 ^ 32) words) else
+    if bytes_eq name (codes "expire")
+    then with_number line.Expire (decimal_below (2 ^ 32) words) else line.Bad
 
 -- a line in words: it is cut at its first space, if it has one
 unfoldable pub control_line : List ℕ → Line
-control_line text = unwrap_or (option_map (λ (p : List ℕ × List ℕ). command_named p.0 p.1) (cut_at 32 text)) (command_alone text)
+control_line text =
+    unwrap_or (option_map (λ (p : List ℕ × List ℕ). command_named p.0 p.1) (cut_at 32 text))
+    (command_alone text)
 
 -- bytes as a text
 unfoldable pub utf8_text : List ℕ → Option (List ℕ)
@@ -38,7 +44,8 @@ utf8_text bytes = if is_utf8 bytes then Some bytes else None
 
 -- what a line says; one carriage return at its end is dropped, and bytes that are no text are a bad line
 abbrev pub line_in : List ℕ → Line
-line_in bytes = unwrap_or (option_map control_line (utf8_text (strip_carriage_return bytes))) line.Bad
+line_in bytes =
+    unwrap_or (option_map control_line (utf8_text (strip_carriage_return bytes))) line.Bad
 
 -- ---- lines
 
@@ -51,4 +58,5 @@ is_long part = nat_lt most_control_bytes (length part)
 abbrev pub requests_in : List (List ℕ) → List Line
 requests_in [] = []
 requests_in (part ∷ []) = cond (is_long part) (line.Bad ∷ []) []
-requests_in (part ∷ more ∷ parts) = cond (is_long part) (line.Bad ∷ []) (line_in part ∷ requests_in (more ∷ parts))
+requests_in (part ∷ more ∷ parts) =
+    cond (is_long part) (line.Bad ∷ []) (line_in part ∷ requests_in (more ∷ parts))

@@ -1,5 +1,5 @@
 -- A farm as its replay begins: its maps have been given the styles that were saved, and nothing else has happened.
-use Rattle.std.proofs.Common.{◌≡◌, ℕ, ◌+◌, ◌-◌, ◌^◌, ◌<◌, ◌≤◌, min, Bool, true, false, List, [], ◌∷◌, length, replicate, map, filter, slice_get, Option, Some, None, is_some, refl, sym, ap, ◌∙◌, subst, arith}
+use Rattle.std.proofs.Common.{◌≡◌, ℕ, ◌+◌, ◌-◌, ◌^◌, ◌<◌, ◌≤◌, min, Bool, false, List, [], ◌∷◌, length, replicate, map, filter, slice_get, Option, Some, None, is_some, refl, sym, ap, ◌∙◌, subst, arith}
 use Rattle.std.specs.Prelude.{IfSome}
 use Rattle.farm_base.specs.Outside.{Outside}
 use Rattle.tile_store.specs.Stores.{StoreTold}
@@ -18,9 +18,10 @@ use Rattle.farm_plan.specs.Plans.{FarmPlan, IsPlan}
 use Rattle.farm_plan.specs.Drawings.{plan_of, data_of}
 use Rattle.expiry_lists.specs.Marks.{MarksSeen, mark_of}
 use Rattle.render_queues.specs.Tables.{no_tables}
-use Rattle.farm_refinement.specs.Stands.{waits_key, asked_of, failures, Accounts, CountsStand, QueuesStand, StandsFor}
+use Rattle.farm_refinement.specs.Stands.{waits_key, asked_of, failures, CountsStand, QueuesStand, StandsFor}
 use Rattle.farm_refinement.specs.inner.Events.{no_counts, new_farm}
-use Rattle.farm_refinement.proofs.Starting.{start_step}
+use Rattle.farm_refinement.proofs.Starting.{no_failures, start_step}
+use Rattle.farm_refinement.proofs.Resuming.{never, still_counted}
 use Rattle.render_jobs.specs.declared.faults.ResumeFault.TheVariants.{Number}
 use Rattle.render_jobs.specs.Given.{styles_given}
 use Rattle.farm_core.specs.inner.Replays.{IsReplaying}
@@ -80,17 +81,6 @@ failures_styles plan (Some n ∷ styles) g = failures_styles plan styles (Restyl
 bare_none : (p : Plan) (told : Bool) → IsBare p told []
 unfolding is_stopped flights waiting open_asks claimed_keys shown data_after
 bare_none p told = record { quiet = record { legal = tt; running = refl; grounded = refl; idle = refl; answered = refl }; unclaimed = refl; unseen = λ k. refl; no_data = refl }
-
-never : (told : Bool) → told ≡ false → told ≡ true → ⊥
-never told is h = let wrong : false ≡ true = sym is ∙ h in cc
-
-same_counted : (plan : FarmPlan) (since : ℕ) (g h : List Entry) → failures plan h ≡ failures plan g → (o : Option StoreTold) → IfSome o (Accounts plan since g) → IfSome o (Accounts plan since h)
-same_counted plan since g h same None a = tt
-same_counted plan since g h same (Some t) a = record { began = a.began; failed = a.failed ∙ sym same }
-
-nothing : (plan : FarmPlan) → failures plan [] ≡ []
-unfolding failures
-nothing plan = refl
 
 module _ {D : Type 0} (state : D → Outside StoreTold) (plan : FarmPlan) (s : Saving) (store : D) (ms : MarksSeen) (valid : IsPlan plan) (shape : IsShaped plan s) (empty : ms.shown ≡ [])
     (counted : IfSome (state store).told (λ t. (state store).faults ≡ length t.failed)) where
@@ -157,10 +147,10 @@ module _ {D : Type 0} (state : D → Outside StoreTold) (plan : FarmPlan) (s : S
       queues_are = queues;
       store_is = record {
         counted = subst (λ xs. min ((state store).faults + length xs) (2 ^ 64 - 1) ≤ (state store).faults) (sym (failures_styles plan s.styles [])) begun_stands.store_is.counted;
-        accounts = same_counted plan (state store).faults [] r (failures_styles plan s.styles []) (state store).told begun_stands.store_is.accounts;
+        accounts = still_counted plan (state store).faults [] r (failures_styles plan s.styles []) (state store).told begun_stands.store_is.accounts;
         is_told = λ t. absurd (never false refl t);
         holds = λ t. absurd (never false refl t);
       };
     };
-    unfailed = failures_styles plan s.styles [] ∙ nothing plan;
+    unfailed = failures_styles plan s.styles [] ∙ no_failures plan;
   }

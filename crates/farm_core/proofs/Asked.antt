@@ -22,7 +22,7 @@ use Rattle.farm_refinement.specs.Stands.{StandsFor}
 use Rattle.farm_refinement.specs.inner.Events.{tests_at, asked_tables, one_turn_more}
 use Rattle.farm_refinement.proofs.Asking.{ask_render_step, ask_unmarked_step, ask_marked_step}
 use Rattle.farm_refinement.proofs.Marking.{dirtied_at}
-use Rattle.farm_core.specs.inner.Asks.{answer_at, rendered_at, rendered_counts, noted_tables, Dirties, Dirtied}
+use Rattle.farm_core.specs.inner.Asks.{answer_at, rendered_at, rendered_counts, noted_tables, DirtiesKey, Dirtied}
 use Rattle.farm_core.specs.inner.Effects.{turn}
 
 pub if_first : {X : Type 0} (P Q : X → Type 0) (o : Option X) → IfSome o (λ x. P x × Q x) → IfSome o P
@@ -75,7 +75,7 @@ module _ {D : Type 0} (state : D → Outside StoreTold) where
   unmarked told old new h conn command spot dirty off same s =
       subst (λ (f : FarmSeen D). StandsFor state told f (Ask conn command spot Silent ∷ h)) (sym same) (ask_unmarked_step state told old h conn command spot dirty off s)
 
-  marked : (told : Bool) (old new : FarmSeen D) (h : List Entry) (conn : Conn) (command : Cmd) (spot : Spot) → is_dirty_command command ≡ true → old.counts.stopped ≡ false → is_servable (plan_of old.plan) spot ≡ true → Dirties (key_of spot) (turn old) new →
+  marked : (told : Bool) (old new : FarmSeen D) (h : List Entry) (conn : Conn) (command : Cmd) (spot : Spot) → is_dirty_command command ≡ true → old.counts.stopped ≡ false → is_servable (plan_of old.plan) spot ≡ true → DirtiesKey (key_of spot) (turn old) new →
       StandsFor state told old h → StandsFor state told new (Ask conn command spot Silent ∷ h)
   marked told old new h conn command spot dirty running on d s =
       subst (λ (f : FarmSeen D). StandsFor state told f (Ask conn command spot Silent ∷ h)) (sym d.rest)
@@ -87,6 +87,6 @@ module _ {D : Type 0} (state : D → Outside StoreTold) where
       unmarked told old new h conn command spot dirty (let off : is_servable (plan_of old.plan) spot ≡ false = sym on in grind arith) d s
   ask_dirty told old new h conn command spot (Some k) dirty on key d s = go old.counts.stopped refl d
     where
-      go : (b : Bool) → old.counts.stopped ≡ b → MatchBool b (new ≡ turn old) (Dirties k (turn old) new) → StandsFor state told new (Ask conn command spot Silent ∷ h)
+      go : (b : Bool) → old.counts.stopped ≡ b → MatchBool b (new ≡ turn old) (DirtiesKey k (turn old) new) → StandsFor state told new (Ask conn command spot Silent ∷ h)
       go true stopped same = unmarked told old new h conn command spot dirty (ap (λ b. not b && is_servable (plan_of old.plan) spot) stopped) same s
-      go false running d = marked told old new h conn command spot dirty running (sym on) (subst (λ (x : Key). Dirties x (turn old) new) key d) s
+      go false running d = marked told old new h conn command spot dirty running (sym on) (subst (λ (x : Key). DirtiesKey x (turn old) new) key d) s

@@ -16,7 +16,7 @@ use Rattle.farm_plan.specs.Spots.{IsKeyOf}
 use Rattle.farm_plan.proofs.Keys.{path_ends}
 use Rattle.farm_refinement.specs.Seen.{FarmSeen}
 use Rattle.farm_core.specs.Answers.{Lasts, at_saved}
-use Rattle.farm_core.specs.inner.Effects.{Keeps}
+use Rattle.farm_core.specs.inner.Effects.{EndsDrawing}
 
 -- what is told of the path of a saved farm
 abbrev saved_in : Option StoreTold → Option (Option (List ℕ))
@@ -61,7 +61,7 @@ module _ {D : Type 0} (state : D → Outside StoreTold) where
   }
 
   -- at the end of a drawing
-  pub lasts_kept : (old new : FarmSeen D) (key : Key) (version : ℕ) (touched : Bool) (bytes : List ℕ) (answer : Finished) → IsKeyOf old.plan key → Keeps state old new key version touched bytes answer → Lasts state old new
+  pub lasts_kept : (old new : FarmSeen D) (key : Key) (version : ℕ) (touched : Bool) (bytes : List ℕ) (answer : Finished) → IsKeyOf old.plan key → EndsDrawing state old new key version touched bytes answer → Lasts state old new
   lasts_kept old new key version touched bytes (Finished.Stored clean) at k =
       lasts_as old _ new k.3 refl refl refl (puts_saved (state old.store) (state new.store) (key_path old.plan key) bytes (Ok tt) (saved_apart old.plan key at) k.1)
   lasts_kept old new key version touched bytes Finished.PutFailed at k =

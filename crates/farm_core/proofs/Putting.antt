@@ -17,7 +17,7 @@ use Rattle.farm_refinement.specs.Seen.{FarmSeen}
 use Rattle.farm_refinement.specs.inner.Events.{stale_tables, untaken}
 use Rattle.farm_core.specs.declared.finishes.Drawn.{Drawn}
 use Rattle.farm_core.specs.Answers.{IsDrawingOf, PutsBytes, PutsDrawing, drawn_bytes, is_drawn}
-use Rattle.farm_core.specs.inner.Effects.{EndsPut, Keeps, finished_by, one_stored, turn}
+use Rattle.farm_core.specs.inner.Effects.{EndsPut, EndsDrawing, finished_by, one_stored, turn}
 
 module _ {D : Type 0} (state : D → Outside StoreTold) where
   -- the put was one of the farm as it was before its memory was taken
@@ -31,7 +31,7 @@ module _ {D : Type 0} (state : D → Outside StoreTold) where
   put_from old mid put taken stored = stored ∙ ap {A = FarmSeen D} (λ f. record f { store = put.store }) taken
 
   pub put_kept : (old mid put new : FarmSeen D) (key : Key) (version : ℕ) (touched : Bool) (bytes : List ℕ) (answer : Result (Unit {0}) StoreFault) → mid ≡ record old { marks = mid.marks } → mid.marks.shown ≡ old.marks.shown →
-      StorePuts (state mid.store) (state put.store) (key_path mid.plan key) bytes answer → put ≡ record mid { store = put.store } → EndsPut put new key version touched answer → Keeps state old new key version touched bytes (finished_by touched answer)
+      StorePuts (state mid.store) (state put.store) (key_path mid.plan key) bytes answer → put ≡ record mid { store = put.store } → EndsPut put new key version touched answer → EndsDrawing state old new key version touched bytes (finished_by touched answer)
   put_kept old mid put new key version touched bytes (Ok done) taken shown p stored e =
       let same : new.store ≡ put.store = ap (λ (f : FarmSeen D). f.store) e.1 in (
         refl,
@@ -63,16 +63,16 @@ module _ {D : Type 0} (state : D → Outside StoreTold) (old new : FarmSeen D) (
   abbrev released : FarmSeen D
   released = record (turn old) { taken = untaken job.ticket old.taken }
 
-  puts_released : (answer : Finished) → Keeps state released new (job_key job) version touched bytes answer → PutsBytes state old new job bytes answer
+  puts_released : (answer : Finished) → EndsDrawing state released new (job_key job) version touched bytes answer → PutsBytes state old new job bytes answer
   puts_released (Finished.Stored clean) k = k.1
   puts_released Finished.PutFailed k = k.0
   puts_released Finished.NoMemory k = k.0
 
-  pub puts_bytes : (mid : FarmSeen D) (key : Key) (answer : Finished) → mid ≡ released → key ≡ job_key job → Keeps state mid new key version touched bytes answer → PutsBytes state old new job bytes answer
+  pub puts_bytes : (mid : FarmSeen D) (key : Key) (answer : Finished) → mid ≡ released → key ≡ job_key job → EndsDrawing state mid new key version touched bytes answer → PutsBytes state old new job bytes answer
   puts_bytes mid key answer mid_is key_is k =
       puts_released answer
-      (subst (λ (x : Key). Keeps state released new x version touched bytes answer) key_is
-      (subst (λ (f : FarmSeen D). Keeps state f new key version touched bytes answer) mid_is k))
+      (subst (λ (x : Key). EndsDrawing state released new x version touched bytes answer) key_is
+      (subst (λ (f : FarmSeen D). EndsDrawing state f new key version touched bytes answer) mid_is k))
 
 -- a drawing whose bytes are at hand is its job's container
 pub drawn_text : (job : JobSeen) (drawn : Drawn) → is_drawn drawn ≡ true → IsDrawingOf job drawn → drawn_bytes drawn ≡ job_text job

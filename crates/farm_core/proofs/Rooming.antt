@@ -3,7 +3,7 @@ use Rattle.std.proofs.Common.{◌≡◌, ℕ, List, length, Option, ap, arith}
 use Rattle.farm_history.specs.Seen.{Taken}
 use Rattle.render_jobs.specs.Shared.{ShareSeen}
 use Rattle.render_queues.specs.Tables.{Tables}
-use Rattle.farm_refinement.specs.Seen.{Counts}
+use Rattle.farm_refinement.specs.declared.counts.Counts.{Counts}
 use Rattle.farm_refinement.specs.inner.Events.{no_counts}
 use Rattle.farm_core.specs.inner.Rooms.{IsRoomy}
 

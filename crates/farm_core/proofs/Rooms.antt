@@ -18,9 +18,10 @@ use Rattle.farm_history.proofs.Lists.{each-append, each-map, each-over, each-fil
 use Rattle.farm_history.proofs.Counts.{count-cons}
 use Rattle.render_queues.specs.OneQueue.{Lines, is_below}
 use Rattle.render_queues.specs.Tables.{Tables, line_of, first_of, next_of, after_take, after_place, lifted_out}
+use Rattle.render_queues.proofs.Ends.{filter_fewer}
 use Rattle.farm_plan.specs.Plans.{FarmPlan, IsPlan}
 use Rattle.farm_plan.specs.Spots.{IsKeyOf}
-use Rattle.farm_refinement.specs.Seen.{Counts}
+use Rattle.farm_refinement.specs.declared.counts.Counts.{Counts}
 use Rattle.render_jobs.specs.Shared.{ShareSeen}
 use Rattle.farm_refinement.specs.inner.Events.{taken_at, untaken, waits_at, with_dirty, stale_tables, asked_tables, marked_tables, dirtied_taken}
 use Rattle.farm_core.specs.inner.Effects.{IsNext}
@@ -179,14 +180,6 @@ differ_filter q (x ∷ xs) differ = go (q x) (differ_filter q xs differ.1)
     go true ih = (not_any (λ (y : Taken). y.ticket == x.ticket) q xs differ.0, ih)
     go false ih = ih
 
-filter_few : {X : Type 0} (q : X → Bool) (xs : List X) → length (filter q xs) ≤ length xs
-filter_few q [] = omega arith
-filter_few q (x ∷ xs) = go (q x) (filter_few q xs)
-  where
-    go : (b : Bool) → length (filter q xs) ≤ length xs → length (cond b (x ∷ filter q xs) (filter q xs)) ≤ length (x ∷ xs)
-    go true ih = omega (arith, ih)
-    go false ih = omega (arith, ih)
-
 -- where a drawing over the newest data is under way, not every worker has a spare share
 pub share_fits : (own : ShareSeen) (version ticket : ℕ) (spares : List ShareSeen) (taken : List Taken) (t : Taken) → AreSpares own version spares taken → Differ ticket_of taken → taken_at taken ticket ≡ Some t →
     t.version ≡ version → length spares < own.plan.workers
@@ -216,7 +209,7 @@ room_release own spares share taken t queues styled counts spares_room taken_roo
         below = each-filter (λ (x : Taken). x.ticket < counts.jobs) (λ (x : Taken). not (x.ticket == ticket)) taken r.are_taken.below;
         aged = each-filter (λ (x : Taken). x.version ≤ counts.version) (λ (x : Taken). not (x.ticket == ticket)) taken r.are_taken.aged;
         keys = each-filter (λ (x : Taken). IsKeyOf own.plan x.key) (λ (x : Taken). not (x.ticket == ticket)) taken r.are_taken.keys;
-        few = omega (arith, filter_few (λ (x : Taken). not (x.ticket == ticket)) taken, r.are_taken.few);
+        few = omega (arith, filter_fewer (λ (x : Taken). not (x.ticket == ticket)) taken, r.are_taken.few);
       };
       are_spares = shares newest is;
       waiting = r.waiting;

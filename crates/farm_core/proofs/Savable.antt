@@ -24,7 +24,7 @@ use Rattle.farm_saved.specs.Savings.{StyleFits, IsKept, IsSaving}
 use Rattle.farm_refinement.specs.Seen.{FarmSeen}
 use Rattle.farm_refinement.specs.Stands.{StandsFor}
 use Rattle.farm_refinement.proofs.Telling.{saved_is}
-use Rattle.farm_core.specs.inner.Saves.{Keeps}
+use Rattle.farm_core.specs.inner.Saves.{IsSavingOf}
 
 all_each : {X : Type 0} (P : X → Type 0) (xs : List X) → Each P xs → All P xs
 all_each P [] h = All-nil P
@@ -90,8 +90,8 @@ module _ (plan : FarmPlan) (told : Bool) (h : List Entry) (s : Saving) (valid : 
   }
 
 -- what a farm keeps is what is saved of its history
-pub kept_saved : {D : Type 0} (state : D → Outside StoreTold) (told : Bool) (farm : FarmSeen D) (h : List Entry) (s : Saving) → Keeps farm s → StandsFor state told farm h → IsSaved (plan_of farm.plan) h s
+pub kept_saved : {D : Type 0} (state : D → Outside StoreTold) (told : Bool) (farm : FarmSeen D) (h : List Entry) (s : Saving) → IsSavingOf farm s → StandsFor state told farm h → IsSaved (plan_of farm.plan) h s
 kept_saved state told farm h s k stands = saved_is state told farm h s k.each_map k.styles_are k.updates_are k.clean_are k.clean_rise stands
 
-pub kept_sound : {D : Type 0} (state : D → Outside StoreTold) (told : Bool) (farm : FarmSeen D) (h : List Entry) (s : Saving) → Keeps farm s → StandsFor state told farm h → IsSaving s
+pub kept_sound : {D : Type 0} (state : D → Outside StoreTold) (told : Bool) (farm : FarmSeen D) (h : List Entry) (s : Saving) → IsSavingOf farm s → StandsFor state told farm h → IsSaving s
 kept_sound state told farm h s k stands = saving_sound farm.plan told h s stands.valid stands.legal (kept_saved state told farm h s k stands)

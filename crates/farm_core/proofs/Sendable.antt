@@ -27,21 +27,12 @@ farm_send D s h a p o t q m = view_send _ _ _ _ _ (recorded_send _ _ (farm_in.th
             (
               s,
               (
-                search sendable,
+                any.Vec-send _ p,
                 (
-                  any.Vec-send _ p,
+                  any.Vec-send _ o,
                   (
-                    any.Vec-send _ o,
-                    (
-                      any.Vec-send _ t,
-                      (
-                        q,
-                        (
-                          m,
-                          (search sendable, (search sendable, (search sendable, (search sendable, (search sendable, (search sendable, (search sendable, tt))))))),
-                        ),
-                      ),
-                    ),
+                    any.Vec-send _ t,
+                    (q, (m, (search sendable depth 24, tt))),
                   ),
                 ),
               ),

@@ -12,6 +12,7 @@ use Rattle.farm_history.specs.Seen.{Taken}
 use Rattle.farm_plan.specs.Plans.{FarmPlan, IsPlan}
 use Rattle.render_jobs.specs.Shared.{ShareSeen}
 use Rattle.render_queues.specs.Tables.{Tables, no_tables}
+use Rattle.farm_refinement.specs.declared.counts.Counts.{Counts}
 use Rattle.farm_refinement.specs.Seen.{FarmSeen}
 use Rattle.farm_refinement.specs.inner.Events.{no_counts}
 use Rattle.farm_refinement.proofs.Starting.{start_step}
@@ -31,9 +32,9 @@ none_wait plan limits workers Queue.Dirty = tt
 none_wait plan limits workers Queue.Bulk = tt
 
 -- what is true of each farm's fields is true of the parts
-pub room_begun : (own : ShareSeen) (spares : List ShareSeen) (taken : List Taken) (queues : Tables) (styled : List (Option ℕ)) (spares_room taken_room : ℕ) → IsPlan own.plan → AreParts own.plan own spares spares_room styled taken queues taken_room →
-    IsRoomy own spares taken queues styled no_counts spares_room taken_room
-room_begun own spares taken queues styled spares_room taken_room valid p = record {
+pub room_begun : (own : ShareSeen) (spares : List ShareSeen) (taken : List Taken) (queues : Tables) (styled : List (Option ℕ)) (counts : Counts) (spares_room taken_room : ℕ) → counts ≡ no_counts → IsPlan own.plan → AreParts own.plan own spares spares_room styled taken queues taken_room →
+    IsRoomy own spares taken queues styled counts spares_room taken_room
+room_begun own spares taken queues styled counts spares_room taken_room none valid p = subst (λ (c : Counts). IsRoomy own spares taken queues styled c spares_room taken_room) (sym none) (record {
   is_plan = valid;
   counted = record { numbers = omega arith; jobs = omega arith; asks = omega arith; done = omega arith; stored = omega arith; version = omega arith };
   are_taken = subst (AreTaken own.plan 0 0) (sym p.tables.undrawn) (record { tickets = tt; below = tt; aged = tt; keys = tt; few = omega arith });
@@ -45,7 +46,7 @@ room_begun own spares taken queues styled spares_room taken_room valid p = recor
   styles = ap length p.tables.unstyled ∙ length-replicate (length own.plan.maps) None;
   spares_fit = p.spares_fit;
   taken_fit = p.tables.taken_fit;
-}
+})
 
 abbrev pub no_style : Option ℕ
 no_style = None

@@ -46,7 +46,7 @@ use Rattle.farm_refinement.proofs.Finishing.{finish_stored_step, finish_lost_ste
 use Rattle.farm_refinement.proofs.Marking.{dirtied_at}
 use Rattle.farm_refinement.proofs.Reading.{fetch_unservable_step, fetch_missing_step, fetch_read_step, look_step}
 use Rattle.farm_refinement.proofs.Replying.{collect_none_step, collect_reply_step, leave_step, stop_step, tally_step}
-use Rattle.farm_core.specs.inner.Effects.{Advances, Claims, Collects, Fetches, Keeps, Dirties, after_claim, is_crowded, turn}
+use Rattle.farm_core.specs.inner.Effects.{Advances, Claims, Collects, Fetches, EndsDrawing, Dirties, after_claim, is_crowded, turn}
 
 -- the place that was written holds what was written, and others what they held
 get_set : {X : Type 0} (xs : List X) (i j : ℕ) (x : X) → i < length xs → slice_get (slice_set xs i x) j ≡ cond (i == j) (Some x) (slice_get xs j)
@@ -137,7 +137,7 @@ module _ {D : Type 0} (state : D → Outside StoreTold) where
   released old ticket = record (turn old) { taken = untaken ticket old.taken }
 
   pub finish_kept : (told : Bool) (old new : FarmSeen D) (h : List Entry) (job : JobSeen) (touched : Bool) (bytes : List ℕ) (answer : Finished) → IsFlight old.plan h job → option_map (λ (t : Taken). t.touched) (taken_at old.taken job.ticket) ≡ Some touched → bytes ≡ job_text job →
-      Keeps state (released old job.ticket) new (job_key job) job.version touched bytes answer → StandsFor state told old h → StandsFor state told new (Finish job.ticket true answer ∷ h)
+      EndsDrawing state (released old job.ticket) new (job_key job) job.version touched bytes answer → StandsFor state told old h → StandsFor state told new (Finish job.ticket true answer ∷ h)
   finish_kept told old new h job touched bytes (Finished.Stored clean) flight is drawn k s =
       let cleaned : (x : Taken) → taken_at old.taken job.ticket ≡ Some x → clean ≡ not x.touched =
       λ x found. k.0 ∙ ap not (let e : Some touched ≡ Some x.touched = sym is ∙ ap (λ (o : Option Taken). option_map (λ (t : Taken). t.touched) o) found in cc) in

@@ -60,20 +60,33 @@ pub record Lasts {D : Type 0} (state : D → Outside StoreTold) (old new : FarmS
   pub beside : at_saved (state new.store) ≡ at_saved (state old.store)
 
 -- What the end of a drawing of these bytes does to the store: one put of them, at the path of its metatile, as it was answered; for want of memory the store is as it was
-abbrev pub PutsBytes : {D : Type 0} → (D → Outside StoreTold) → FarmSeen D → FarmSeen D → JobSeen → List ℕ → Finished → Type 0
-PutsBytes state old new job bytes (Finished.Stored clean) = StorePuts (state old.store) (state new.store) (key_path old.plan (job_key job)) bytes (Ok tt)
-PutsBytes state old new job bytes Finished.PutFailed = StorePuts (state old.store) (state new.store) (key_path old.plan (job_key job)) bytes (Err Failed)
+abbrev pub PutsBytes : {D : Type 0} → (D → Outside StoreTold) → FarmSeen D → FarmSeen D → JobSeen
+    → List ℕ → Finished → Type 0
+PutsBytes state old new job bytes (Finished.Stored clean) =
+    StorePuts (state old.store) (state new.store) (key_path old.plan (job_key job)) bytes (Ok tt)
+PutsBytes state old new job bytes Finished.PutFailed =
+    StorePuts (state old.store) (state new.store) (key_path old.plan (job_key job)) bytes
+    (Err Failed)
 PutsBytes state old new job bytes Finished.NoMemory = state new.store ≡ state old.store
 
 -- What the end of a drawing does to the store, by what was drawn; without a drawing the store is as it was
-abbrev pub PutsDrawing : {D : Type 0} → (D → Outside StoreTold) → FarmSeen D → FarmSeen D → JobSeen → Drawn → Finished → Type 0
-PutsDrawing state old new job (Drawn.Bytes bytes) answer = PutsBytes state old new job bytes.items answer
-PutsDrawing state old new job (Drawn.Staged staged) answer = PutsBytes state old new job staged.bytes answer
+abbrev pub PutsDrawing : {D : Type 0} → (D → Outside StoreTold) → FarmSeen D → FarmSeen D → JobSeen
+    → Drawn → Finished → Type 0
+PutsDrawing state old new job (Drawn.Bytes bytes) answer =
+    PutsBytes state old new job bytes.items answer
+PutsDrawing state old new job (Drawn.Staged staged) answer =
+    PutsBytes state old new job staged.bytes answer
 PutsDrawing state old new job Drawn.NoMemory answer = state new.store ≡ state old.store
 
 -- What a fetch of the spot read and is answered, by whether the spot can be served and by the mark of its metatile. With a mark the tile at the spot's place was read, of the container at the metatile's path, from the store as it was; without, nothing was read, and the store is as it was
-abbrev pub Reads : {D : Type 0} → (D → Outside StoreTold) → FarmSeen D → FarmSeen D → Spot → Fetched → Bool → Option Mark → Type 0
-Reads state old new spot answer false mark = (answer ≡ Fetched.Unservable) × (new.store ≡ old.store)
-Reads state old new spot answer true None = (answer ≡ Fetched.Missing) × (new.store ≡ old.store)
+abbrev pub Reads : {D : Type 0} → (D → Outside StoreTold) → FarmSeen D → FarmSeen D → Spot → Fetched
+    → Bool → Option Mark → Type 0
+Reads state old new spot answer false mark =
+    (answer ≡ Fetched.Unservable) × (new.store ≡ old.store)
+Reads state old new spot answer true None =
+    (answer ≡ Fetched.Missing) × (new.store ≡ old.store)
 Reads state old new spot answer true (Some mark) =
-    (read : Result (List ℕ) Fetched) × ReadsTile (state old.store) (state new.store) (key_path old.plan (key_of spot)) (key_of spot).meta (index_place (spot_tile spot)) read × (answer ≡ fetched_by mark read)
+    (read : Result (List ℕ) Fetched)
+    × ReadsTile (state old.store) (state new.store) (key_path old.plan (key_of spot))
+    (key_of spot).meta (index_place (spot_tile spot)) read
+    × (answer ≡ fetched_by mark read)

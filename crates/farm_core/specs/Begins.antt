@@ -20,15 +20,19 @@ origin plan (Some s) = replay (plan_of plan) s
 -- the store tells; and where the farm was resumed it holds what the replay says is shown
 abbrev pub Tells : Outside StoreTold → FarmPlan → Option Saving → Type 0
 Tells store plan None = is_some store.told ≡ true
-Tells store plan (Some s) = (is_some store.told ≡ true) × IfSome store.told (λ t. HoldsShown plan (replay (plan_of plan) s) t.content)
+Tells store plan (Some s) =
+    (is_some store.told ≡ true)
+    × IfSome store.told (λ t. HoldsShown plan (replay (plan_of plan) s) t.content)
 
 -- A farm as it begins: it has the plan, what it was resumed from, if it was, and the store, now and as it was at the start; and it stands for its origin, where that it is told what the store holds may be said where the store tells
-pub record Begins {D : Type 0} (state : D → Outside StoreTold) (plan : FarmPlan) (saved : Option Saving) (store : D) (farm : FarmSeen D) : Type 0 where
+pub record Begins {D : Type 0} (state : D → Outside StoreTold) (plan : FarmPlan)
+    (saved : Option Saving) (store : D) (farm : FarmSeen D) : Type 0 where
   pub plan_is : farm.plan ≡ plan
   pub saved_is : farm.saved ≡ saved
   pub first_is : farm.first ≡ store
   pub store_is : farm.store ≡ store
-  pub stands : (store_tells : Bool) → (store_tells ≡ true → Tells (state store) plan saved) → StandsFor state store_tells farm (origin plan saved)
+  pub stands : (store_tells : Bool) → (store_tells ≡ true → Tells (state store) plan saved)
+      → StandsFor state store_tells farm (origin plan saved)
 
 -- a history with which a farm may begin: it leaves room for all turns, no drawing is under way, and no ask in it is of a running farm's front
 pub record BeginsWell (h : List Entry) : Type 0 where

@@ -6,7 +6,7 @@ ghost use Rattle.farm_history.specs.declared.queues.Queue.{Queue};
 ghost use Rattle.farm_history.specs.inner.Asks.{answer_of_waiting};
 ghost use Rattle.farm_history.specs.Seen.{is_clean_mark};
 ghost use Rattle.render_queues.specs.Tables.{open_count, open_of};
-ghost use Rattle.farm_core.specs.inner.Asks.{Dirtied, Dirties, Needs, answer_at, noted_tables, rendered_at, rendered_counts};
+ghost use Rattle.farm_core.specs.inner.Asks.{Dirtied, DirtiesKey, Needs, answer_at, noted_tables, rendered_at, rendered_counts};
 ghost use Rattle.farm_history.specs.Entries.{Ask, Entry};
 ghost use Rattle.farm_history.specs.Past.{number_in};
 ghost use Rattle.farm_plan.specs.Drawings.{plan_of};
@@ -192,7 +192,8 @@ fn is_numbered(answer: AskAnswer) -> bool
 
 impl<D> Farm<D> {
     fn has_backlog(&self, conn: Conn) -> bool
-        ensures { result ≡ (nat_le most_asks_of_one (open_of self.now.queues conn) || nat_le most_asks (open_count self.now.queues)) }
+        ensures { result ≡ (nat_le most_asks_of_one (open_of self.now.queues conn)
+            || nat_le most_asks (open_count self.now.queues)) }
     {
         MOST_ASKS_OF_ONE <= self.queues.asks_of(conn) || MOST_ASKS <= self.queues.asks()
     }
@@ -211,7 +212,7 @@ impl<D> Farm<D> {
         }
         let place = place_of(&self.queues, key);
         if place.flies {
-            return AskAnswer::Joined(self.numbers);
+            return AskAnswer::Joined(self.counts.numbers);
         }
         let liftable = is_lifting(cmd) && (place.in_dirty || place.in_bulk);
         let own_room = self.queues.has_room(own_queue(cmd));
@@ -222,7 +223,7 @@ impl<D> Farm<D> {
             place.waits,
             own_room,
             dirty_room,
-            self.numbers,
+            self.counts.numbers,
         )
     }
 }
@@ -231,7 +232,9 @@ impl<D> Farm<D> {
     fn note(&mut self, conn: Conn, cmd: Cmd, key: Key, answer: AskAnswer)
         requires key { IsKeyOf self.old.plan key }
         requires needs { Needs self.old.queues (own_queue cmd) key answer }
-        ensures { self.new ≡ record self.old { queues = asked_tables self.old.queues (own_queue cmd) key conn answer } }
+        ensures { self.new ≡ record self.old {
+          queues = asked_tables self.old.queues (own_queue cmd) key conn answer;
+        } }
     {
         note_answer(&mut self.queues, own_queue(cmd), key, conn, answer);
     }
@@ -243,14 +246,15 @@ impl<D> Farm<D> {
         requires turns { self.old.counts.turns ≤ 2 ^ 63 }
         ensures { self.new ≡ record self.old { counts = rendered_counts answer self.old.counts } }
     {
-        self.numbers = one_more(self.numbers, is_numbered(answer));
-        self.asks += 1;
-        self.done = one_more(self.done, answer == AskAnswer::Done);
+        let counts = &mut self.counts;
+        counts.numbers = one_more(counts.numbers, is_numbered(answer));
+        counts.asks += 1;
+        counts.done = one_more(counts.done, answer == AskAnswer::Done);
     }
 
     fn mark_dirty(&mut self, key: Key)
         requires { IsKeyOf self.old.plan key }
-        ensures { Dirties key self.old self.new }
+        ensures { DirtiesKey key self.old self.new }
     {
         touch_key(self.taken.as_mut_slice(), key);
         self.marks.expire_one(key);
@@ -263,7 +267,10 @@ impl<D> Farm<D> {
         ensures served { is_some result ≡ is_servable (plan_of self.now.plan) spot }
         ensures key { IfSome result (λ key. (key ≡ key_of spot) × IsKeyOf self.now.plan key) }
     {
-        serve(self.own.setup(), spot)
+        match serve(self.own.setup(), spot) {
+            Some((key, _)) => Some(key),
+            None => None,
+        }
     }
 
     fn rendered(&self, conn: Conn, cmd: Cmd, served: Option<Key>) -> AskAnswer
@@ -271,7 +278,7 @@ impl<D> Farm<D> {
         ensures needs { IfSome served (λ key. Needs self.now.queues (own_queue cmd) key result) }
     {
         self.queues.law_sound();
-        if self.stopped {
+        if self.counts.stopped {
             return AskAnswer::NotDone(Why::Stopping);
         }
         match served {
@@ -282,8 +289,11 @@ impl<D> Farm<D> {
 
     // Does what the answer to an ask with a render command says, where the spot can be served.
     fn note_served(&mut self, conn: Conn, cmd: Cmd, served: Option<Key>, answer: AskAnswer)
-        requires { IfSome served (λ key. IsKeyOf self.old.plan key × Needs self.old.queues (own_queue cmd) key answer) }
-        ensures { self.new ≡ record self.old { queues = noted_tables self.old.queues (own_queue cmd) conn served answer } }
+        requires { IfSome served
+            (λ key. IsKeyOf self.old.plan key × Needs self.old.queues (own_queue cmd) key answer) }
+        ensures { self.new ≡ record self.old {
+          queues = noted_tables self.old.queues (own_queue cmd) conn served answer;
+        } }
     {
         if let Some(key) = served {
             self.note(conn, cmd, key, answer);
@@ -294,7 +304,7 @@ impl<D> Farm<D> {
         requires { IfSome served (IsKeyOf self.old.plan) }
         ensures { Dirtied self.old self.new served }
     {
-        if self.stopped {
+        if self.counts.stopped {
             return;
         }
         if let Some(key) = served {
@@ -318,7 +328,9 @@ impl<D: TileStore> Farm<D> {
     /// dirty queue where it neither waits nor is being drawn.
     pub fn ask(&mut self, conn: Conn, cmd: Cmd, spot: Spot) -> AskAnswer
         requires { self.old.counts.turns < 2 ^ 63 }
-        ensures step { (store_tells : Bool) (h : List Entry) → StandsFor D.state store_tells self.old h → StandsFor D.state store_tells self.new (Ask conn cmd spot result ∷ h) }
+        ensures step { (store_tells : Bool) (h : List Entry)
+            → StandsFor D.state store_tells self.old h
+            → StandsFor D.state store_tells self.new (Ask conn cmd spot result ∷ h) }
         ensures kept { Lasts D.state self.old self.new }
         ensures store { self.new.store ≡ self.old.store }
     {

@@ -34,7 +34,7 @@ impl<D> Farm<D> {
         ensures turned { self.new ≡ turn self.old }
         ensures counted { AreCounted self.old.counts }
     {
-        self.turns += 1;
+        self.counts.turns += 1;
     }
 
     fn is_crowded(&self) -> bool
@@ -48,7 +48,9 @@ impl<D> Farm<D> {
     fn next_key(&mut self) -> Option<Key>
         requires { length self.old.queues.taken < self.old.queues.workers }
         ensures key { result ≡ option_map (λ w. w.key) (next_of self.old.queues.lines) }
-        ensures farm { self.new ≡ record self.old { queues = after_take self.old.queues (next_of self.old.queues.lines) } }
+        ensures farm { self.new ≡ record self.old {
+          queues = after_take self.old.queues (next_of self.old.queues.lines);
+        } }
         ensures valid { IfSome result (IsKeyOf self.old.plan) }
     {
         self.queues.take()
@@ -64,15 +66,15 @@ impl<D> Farm<D> {
     {
         let share = self.spares.pop().unwrap();
         let styled = self.styled[key.map as usize];
-        let ticket = self.jobs;
-        let version = self.version;
+        let ticket = self.counts.jobs;
+        let version = self.counts.version;
         self.taken.push_reserved(Taken {
             ticket,
             key,
             version,
             touched: false,
         });
-        self.jobs += 1;
+        self.counts.jobs += 1;
         Job::new(share, ticket, worker, key, version, styled)
     }
 
@@ -95,14 +97,17 @@ impl<D: TileStore> Farm<D> {
     /// where as many drawings are under way as there are workers, Stopped after a stop.
     pub fn claim(&mut self, worker: u32) -> Claimed
         requires { self.old.counts.turns < 2 ^ 63 }
-        ensures step { (store_tells : Bool) (h : List Entry) → StandsFor D.state store_tells self.old h → StandsFor D.state store_tells self.new (Claim worker (claim_answer result) ∷ h) }
-        ensures carries { (store_tells : Bool) (h : List Entry) → StandsFor D.state store_tells self.old h → IfJob result (Carries self.old.plan h) }
+        ensures step { (store_tells : Bool) (h : List Entry)
+            → StandsFor D.state store_tells self.old h
+            → StandsFor D.state store_tells self.new (Claim worker (claim_answer result) ∷ h) }
+        ensures carries { (store_tells : Bool) (h : List Entry)
+            → StandsFor D.state store_tells self.old h → IfJob result (Carries self.old.plan h) }
         ensures job { IfJob result (λ job. IsValidJob job × (job.worker ≡ worker)) }
         ensures kept { Lasts D.state self.old self.new }
         ensures store { self.new.store ≡ self.old.store }
     {
         self.count_turn();
-        if self.stopped {
+        if self.counts.stopped {
             return Claimed::Stopped;
         }
         if self.is_crowded() {

@@ -34,7 +34,8 @@ impl<D> Farm<D> {
 impl<D> Farm<D> {
     fn give_style(&mut self, map: u32, number: u32)
         requires { map < length self.old.plan.maps }
-        ensures { self.new ≡ record self.old { styled = slice_set self.old.styled map (Some number) } }
+        ensures { self.new
+            ≡ record self.old { styled = slice_set self.old.styled map (Some number) } }
     {
         self.styled[map as usize] = Some(number);
     }
@@ -54,7 +55,9 @@ impl<D: TileStore> Farm<D> {
     pub fn expire(&mut self, t: Tile) -> u64
         requires turns { self.old.counts.turns < 2 ^ 63 }
         requires tile { IsTile t }
-        ensures step { (store_tells : Bool) (h : List Entry) → StandsFor D.state store_tells self.old h → StandsFor D.state store_tells self.new (Expire t result ∷ h) }
+        ensures step { (store_tells : Bool) (h : List Entry)
+            → StandsFor D.state store_tells self.old h
+            → StandsFor D.state store_tells self.new (Expire t result ∷ h) }
         ensures kept { Lasts D.state self.old self.new }
         ensures store { self.new.store ≡ self.old.store }
     {
@@ -67,7 +70,9 @@ impl<D: TileStore> Farm<D> {
     /// The map's name, tile size and greatest zoom stay.
     pub fn restyle(&mut self, number: u32) -> Restyled
         requires { self.old.counts.turns < 2 ^ 63 }
-        ensures step { (store_tells : Bool) (h : List Entry) → StandsFor D.state store_tells self.old h → StandsFor D.state store_tells self.new (Restyle number result ∷ h) }
+        ensures step { (store_tells : Bool) (h : List Entry)
+            → StandsFor D.state store_tells self.old h
+            → StandsFor D.state store_tells self.new (Restyle number result ∷ h) }
         ensures kept { Lasts D.state self.old self.new }
         ensures store { self.new.store ≡ self.old.store }
     {

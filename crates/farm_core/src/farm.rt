@@ -10,6 +10,7 @@ ghost use Rattle.farm_refinement.specs.Stands.{StandsFor};
 use expiry_lists::Marks;
 use farm_history::Saved;
 use farm_plan::Past;
+use farm_refinement::Counts;
 use render_jobs::{Share, Taken};
 use render_queues::Queues;
 use std::alloc::Global;
@@ -28,20 +29,13 @@ pub struct Farm<D> {
     pub(crate) saved: Option<Saved>,
     pub(crate) first: Seen<D>,
     pub(crate) store: D,
-    pub(crate) version: u64,
     pub(crate) changes: Vec<Past>,
     pub(crate) styled: Vec<Option<u32>>,
     // The drawings under way. The queues hold their keys too: there a key stands once, waiting or taken.
     pub(crate) taken: Vec<Taken>,
     pub(crate) queues: Queues,
     pub(crate) marks: Marks,
-    pub(crate) turns: u64,
-    pub(crate) numbers: u64,
-    pub(crate) jobs: u64,
-    pub(crate) asks: u64,
-    pub(crate) done: u64,
-    pub(crate) stored: u64,
-    pub(crate) stopped: bool,
+    pub(crate) counts: Counts,
 }
 
 impl<D> Model for Farm<D> {
@@ -67,10 +61,11 @@ impl<D> Model for Farm<D> {
       taken = f.taken.items;
       queues = f.queues;
       marks = f.marks;
-      counts = record { turns = f.turns; stopped = f.stopped; version = f.version; numbers = f.numbers; jobs = f.jobs; asks = f.asks; done = f.done; stored = f.stored };
+      counts = f.counts;
     } };
 
-    ghost invariant = { λ f. IsRoomy f.own f.spares.items f.taken.items f.queues f.styled.items (record { turns = f.turns; stopped = f.stopped; version = f.version; numbers = f.numbers; jobs = f.jobs; asks = f.asks; done = f.done; stored = f.stored }) (vec_capacity f.spares) (vec_capacity f.taken) };
+    ghost invariant = { λ f. IsRoomy f.own f.spares.items f.taken.items f.queues f.styled.items
+        f.counts (vec_capacity f.spares) (vec_capacity f.taken) };
 }
 
 impl<D> Farm<D> {
@@ -78,7 +73,7 @@ impl<D> Farm<D> {
     pub fn turns(&self) -> u64
         ensures { result ≡ self.now.counts.turns }
     {
-        self.turns
+        self.counts.turns
     }
 
     /// What is true of the plan of each farm: the symbolizers of all its styles are within their ranges, which the
@@ -132,9 +127,12 @@ impl<D: TileStore> Farm<D> {
     /// where the store's count of faults rose.
     pub fn put_beside(&mut self, alloc: Global, path: &str, bytes: &[u8]) -> Result<(), StoreFault>
         requires { ends_with (λ a b. a == b) path.now (codes ".meta") ≡ false }
-        ensures store { StorePuts (D.state self.old.store) (D.state self.new.store) path.now bytes.now result }
+        ensures store { StorePuts (D.state self.old.store) (D.state self.new.store)
+            path.now bytes.now result }
         ensures farm { self.new ≡ record self.old { store = self.new.store } }
-        ensures stands { (store_tells : Bool) (h : List Entry) → StandsFor D.state store_tells self.old h → StandsFor D.state store_tells self.new h }
+        ensures stands { (store_tells : Bool) (h : List Entry)
+            → StandsFor D.state store_tells self.old h
+            → StandsFor D.state store_tells self.new h }
     {
         self.store.put(alloc, path, bytes)
     }

@@ -40,7 +40,8 @@ fn read_tile<D: TileStore>(
 ) -> Result<Bytes, Fetched>
     requires tile { IsTile tile }
     requires place { meta_of tile ≡ meta }
-    ensures { ReadsTile (D.state store.old) (D.state store.new) path.now meta (index_place tile) result }
+    ensures { ReadsTile (D.state store.old) (D.state store.new)
+        path.now meta (index_place tile) result }
 {
     let head = match store.get_part(alloc, path, 0, HEAD_BYTES as u32) {
         Ok(Some(head)) => head,
@@ -99,7 +100,7 @@ impl<D> Farm<D> {
         ensures { result ≡ look_at self.now spot }
     {
         match serve(self.own.setup(), spot) {
-            Some(key) => looked_by(self.marks.of(key)),
+            Some((key, _)) => looked_by(self.marks.of(key)),
             None => Looked::Unservable,
         }
     }
@@ -124,7 +125,9 @@ impl<D: TileStore> Farm<D> {
     /// Dirty with the data version of what is shown.
     pub fn look(&mut self, spot: Spot) -> Looked
         requires { self.old.counts.turns < 2 ^ 63 }
-        ensures step { (store_tells : Bool) (h : List Entry) → StandsFor D.state store_tells self.old h → StandsFor D.state store_tells self.new (Look spot result ∷ h) }
+        ensures step { (store_tells : Bool) (h : List Entry)
+            → StandsFor D.state store_tells self.old h
+            → StandsFor D.state store_tells self.new (Look spot result ∷ h) }
         ensures kept { Lasts D.state self.old self.new }
         ensures store { self.new.store ≡ self.old.store }
     {
@@ -140,21 +143,20 @@ impl<D: TileStore> Farm<D> {
     /// the plain drawing in the style and over the data of the claim of what is shown.
     pub fn fetch(&mut self, alloc: Global, spot: Spot) -> Fetched
         requires { self.old.counts.turns < 2 ^ 63 }
-        ensures step { (store_tells : Bool) (h : List Entry) → StandsFor D.state store_tells self.old h → StandsFor D.state store_tells self.new (Fetch spot result ∷ h) }
+        ensures step { (store_tells : Bool) (h : List Entry)
+            → StandsFor D.state store_tells self.old h
+            → StandsFor D.state store_tells self.new (Fetch spot result ∷ h) }
         ensures kept { Lasts D.state self.old self.new }
-        ensures reads { Reads D.state self.old self.new spot result (is_servable (plan_of self.old.plan) spot) (mark_of self.old.marks.shown (key_of spot)) }
+        ensures reads { Reads D.state self.old self.new spot result
+            (is_servable (plan_of self.old.plan) spot)
+            (mark_of self.old.marks.shown (key_of spot)) }
     {
         self.count_turn();
-        let Some(key) = serve(self.own.setup(), spot) else {
+        let Some((key, tile)) = serve(self.own.setup(), spot) else {
             return Fetched::Unservable;
         };
         let Some(mark) = self.marks.of(key) else {
             return Fetched::Missing;
-        };
-        let tile = Tile {
-            z: spot.z,
-            x: spot.x,
-            y: spot.y,
         };
         self.read(alloc, key, tile, mark)
     }

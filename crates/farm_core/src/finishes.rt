@@ -7,7 +7,7 @@ ghost use Rattle.farm_plan.specs.Drawings.{key_path};
 ghost use Rattle.tile_store.specs.Stores.{StorePuts};
 ghost use Rattle.render_queues.specs.Tables.{after_end};
 ghost use Rattle.render_jobs.specs.Shared.{ShareSeen};
-ghost use Rattle.farm_core.specs.inner.Effects.{EndsPut, IsTaken, Keeps, MarksBut, finished_by, one_stored};
+ghost use Rattle.farm_core.specs.inner.Effects.{EndsPut, IsTaken, EndsDrawing, MarksBut, finished_by, one_stored};
 ghost use Rattle.farm_refinement.specs.inner.Events.{stale_tables, taken_at, untaken};
 ghost use Rattle.farm_history.specs.Entries.{Entry, Finish};
 ghost use Rattle.farm_core.specs.Answers.{IsDrawingOf, Lasts, PutsBytes, PutsDrawing, drawn_bytes, is_drawn};
@@ -46,7 +46,8 @@ fn is_drawn(drawn: &Drawn) -> bool
 // Puts a share back, where it is of the newest data, and lets it go otherwise.
 fn give_back(spares: &mut Vec<Share>, share: Share, is_newest: bool)
     requires { is_newest ≡ true → length spares.old.items < vec_capacity spares.old }
-    ensures items { spares.new.items ≡ (if is_newest then spares.old.items ++ share ∷ [] else spares.old.items) }
+    ensures items { spares.new.items
+        ≡ (if is_newest then spares.old.items ++ share ∷ [] else spares.old.items) }
     ensures capacity { vec_capacity spares.new ≡ vec_capacity spares.old }
 {
     if is_newest {
@@ -70,11 +71,12 @@ impl<D> Farm<D> {
     // Takes a drawing out of those under way, and its share back; answers whether its metatile was touched.
     fn release(&mut self, job: Job) -> bool
         requires { IsTaken self.old job }
-        ensures touched { option_map (λ t. t.touched) (taken_at self.old.taken job.ticket) ≡ Some result }
+        ensures touched { option_map (λ t. t.touched) (taken_at self.old.taken job.ticket)
+            ≡ Some result }
         ensures farm { self.new ≡ record self.old { taken = untaken job.ticket self.old.taken } }
     {
         let touched = taken_of(self.taken.as_slice(), job.ticket).unwrap().touched;
-        let is_newest = job.version == self.version;
+        let is_newest = job.version == self.counts.version;
         drop_taken(&mut self.taken, job.ticket);
         give_back(&mut self.spares, job.into_share(), is_newest);
         touched
@@ -93,17 +95,26 @@ impl<D> Farm<D> {
         requires room { 1 ≤ self.old.marks.room }
         requires taken { is_in key self.old.queues.taken ≡ true }
         requires more { self.old.counts.stored < self.old.counts.turns }
-        ensures marks { MarksBut self.old.marks self.new.marks key (Some (record { version = version; clean = not touched })) }
-        ensures farm { self.new ≡ record self.old { marks = self.new.marks; queues = stale_tables (not touched) (after_end self.old.queues key Outcome.Done) key; counts = one_stored self.old.counts } }
+        ensures marks { MarksBut self.old.marks self.new.marks key
+            (Some (record { version = version; clean = not touched })) }
+        ensures farm { self.new ≡ record self.old {
+          marks = self.new.marks;
+          queues = stale_tables (not touched)
+              (after_end self.old.queues key Outcome.Done) key;
+          counts = one_stored self.old.counts;
+        } }
     {
         self.marks.show(key, version, !touched);
         end_stored(&mut self.queues, key, touched);
-        self.stored += 1;
+        self.counts.stored += 1;
     }
 
     fn lose(&mut self, key: Key)
         ensures marks { MarksBut self.old.marks self.new.marks key None }
-        ensures farm { self.new ≡ record self.old { marks = self.new.marks; queues = after_end self.old.queues key Outcome.NotDone } }
+        ensures farm { self.new ≡ record self.old {
+          marks = self.new.marks;
+          queues = after_end self.old.queues key Outcome.NotDone;
+        } }
     {
         self.marks.hide(key);
         self.queues.end(key, Outcome::NotDone);
@@ -111,7 +122,8 @@ impl<D> Farm<D> {
 
     // Ends a drawing for want of memory.
     fn cut(&mut self, key: Key)
-        ensures { self.new ≡ record self.old { queues = after_end self.old.queues key Outcome.Cut } }
+        ensures { self.new
+            ≡ record self.old { queues = after_end self.old.queues key Outcome.Cut } }
     {
         self.queues.end(key, Outcome::Cut);
     }
@@ -153,7 +165,8 @@ impl<D: TileStore> Farm<D> {
     // Puts what was drawn at its metatile's path; without a drawing there was no memory.
     fn put(&mut self, alloc: Global, key: Key, drawn: &Drawn) -> Result<(), StoreFault>
         requires { IsKeyOf self.old.plan key }
-        ensures store { StorePuts (D.state self.old.store) (D.state self.new.store) (key_path self.old.plan key) (drawn_bytes drawn.now) result }
+        ensures store { StorePuts (D.state self.old.store) (D.state self.new.store)
+            (key_path self.old.plan key) (drawn_bytes drawn.now) result }
         ensures farm { self.new ≡ record self.old { store = self.new.store } }
     {
         let path = self.own.setup().path(key);
@@ -175,7 +188,8 @@ impl<D: TileStore> Farm<D> {
         requires key { IsKeyOf self.old.plan key }
         requires taken { is_in key self.old.queues.taken ≡ true }
         requires more { self.old.counts.stored < self.old.counts.turns }
-        ensures { Keeps D.state self.old self.new key version touched (drawn_bytes drawn.now) result }
+        ensures { EndsDrawing D.state self.old self.new
+            key version touched (drawn_bytes drawn.now) result }
     {
         if self.reserve().is_err() {
             self.cut(key);
@@ -189,9 +203,14 @@ impl<D: TileStore> Farm<D> {
 impl<D: TileStore> Farm<D> {
     fn finish_drawn(&mut self, alloc: Global, job: Job, drawn: &Drawn) -> Finished
         requires turns { self.old.counts.turns < 2 ^ 63 }
-        requires flight { (store_tells : Bool) × (h : List Entry) × StandsFor D.state store_tells self.old h × IsFlight self.old.plan h job }
+        requires flight { (store_tells : Bool)
+            × (h : List Entry)
+            × StandsFor D.state store_tells self.old h
+            × IsFlight self.old.plan h job }
         requires drawing { drawn_bytes drawn.now ≡ job_text job }
-        ensures step { (store_tells : Bool) (h : List Entry) → StandsFor D.state store_tells self.old h → IsFlight self.old.plan h job
+        ensures step { (store_tells : Bool) (h : List Entry)
+            → StandsFor D.state store_tells self.old h
+            → IsFlight self.old.plan h job
             → StandsFor D.state store_tells self.new (Finish job.ticket true result ∷ h) }
         ensures kept { Lasts D.state self.old self.new }
         ensures puts { PutsBytes D.state self.old self.new job (drawn_bytes drawn.now) result }
@@ -205,8 +224,13 @@ impl<D: TileStore> Farm<D> {
 
     fn finish_none(&mut self, job: Job) -> Finished
         requires turns { self.old.counts.turns < 2 ^ 63 }
-        requires flight { (store_tells : Bool) × (h : List Entry) × StandsFor D.state store_tells self.old h × IsFlight self.old.plan h job }
-        ensures step { (store_tells : Bool) (h : List Entry) → StandsFor D.state store_tells self.old h → IsFlight self.old.plan h job
+        requires flight { (store_tells : Bool)
+            × (h : List Entry)
+            × StandsFor D.state store_tells self.old h
+            × IsFlight self.old.plan h job }
+        ensures step { (store_tells : Bool) (h : List Entry)
+            → StandsFor D.state store_tells self.old h
+            → IsFlight self.old.plan h job
             → StandsFor D.state store_tells self.new (Finish job.ticket false result ∷ h) }
         ensures kept { Lasts D.state self.old self.new }
         ensures puts { D.state self.new.store ≡ D.state self.old.store }
@@ -230,10 +254,16 @@ impl<D: TileStore> Farm<D> {
     /// of the plain drawings of its metatile's tiles, in its style and over its data.
     pub fn finish(&mut self, alloc: Global, job: Job, drawn: Drawn) -> Finished
         requires turns { self.old.counts.turns < 2 ^ 63 }
-        requires flight { (store_tells : Bool) × (h : List Entry) × StandsFor D.state store_tells self.old h × IsFlight self.old.plan h job }
+        requires flight { (store_tells : Bool)
+            × (h : List Entry)
+            × StandsFor D.state store_tells self.old h
+            × IsFlight self.old.plan h job }
         requires drawing { IsDrawingOf job drawn }
-        ensures step { (store_tells : Bool) (h : List Entry) → StandsFor D.state store_tells self.old h → IsFlight self.old.plan h job
-            → StandsFor D.state store_tells self.new (Finish job.ticket (is_drawn drawn) result ∷ h) }
+        ensures step { (store_tells : Bool) (h : List Entry)
+            → StandsFor D.state store_tells self.old h
+            → IsFlight self.old.plan h job
+            → StandsFor D.state store_tells self.new
+            (Finish job.ticket (is_drawn drawn) result ∷ h) }
         ensures kept { Lasts D.state self.old self.new }
         ensures puts { PutsDrawing D.state self.old self.new job drawn result }
     {

@@ -34,7 +34,9 @@ fn is_reached(setup: &Setup, boxes: &[Bounds], key: Key) -> bool
 fn touch_reached(taken: &mut [Taken], setup: &Setup, boxes: &[Bounds])
     requires plan { IsPlan setup.now }
     requires keys { Each (λ t. IsKeyOf setup.now t.key) taken.old }
-    ensures { taken.new ≡ map_list (overtaken_by (λ k. boxes_reach_map boxes.now (slice_get setup.now.maps k.map) k.meta)) taken.old }
+    ensures { taken.new ≡ map_list
+        (overtaken_by (λ k. boxes_reach_map boxes.now (slice_get setup.now.maps k.map) k.meta))
+        taken.old }
 {
     for one in taken.iter_mut() {
         *one = overtaken(*one, is_reached(setup, boxes, one.key));
@@ -44,7 +46,9 @@ fn touch_reached(taken: &mut [Taken], setup: &Setup, boxes: &[Bounds])
 impl<D> Farm<D> {
     fn named(&self, alloc: Global, number: u32) -> Result<Vec<Bounds>, NoMemory>
         requires { number < length self.now.plan.updates }
-        ensures { IfOk result (λ boxes. AreBoxesOf (named self.now.data_now (update_of self.now.plan number)) boxes.items) }
+        ensures { IfOk result
+            (λ boxes. AreBoxesOf
+            (named self.now.data_now (update_of self.now.plan number)) boxes.items) }
     {
         let update = self.own.setup().update(number).unwrap();
         named_boxes(alloc, self.own.snapshot(), update)
@@ -64,7 +68,9 @@ impl<D> Farm<D> {
         requires known { number < length self.old.plan.updates }
         requires more { self.old.counts.version < self.old.counts.turns }
         ensures done { IfOk result (Renews self.old self.new number) }
-        ensures refused { IfErr result (λ e. e ≢ ApplyFault.NoMemory → update_result (update_of self.old.plan number) self.old.data_now ≡ Err e) }
+        ensures refused { IfErr result
+            (λ e. e ≢ ApplyFault.NoMemory
+            → update_result (update_of self.old.plan number) self.old.data_now ≡ Err e) }
         ensures same { IfErr result (λ e. self.new ≡ self.old) }
     {
         let Ok(mut boxes) = self.named(alloc, number) else {
@@ -82,7 +88,9 @@ impl<D: TileStore> Farm<D> {
     /// `update`, and then nothing has changed.
     pub fn renew(&mut self, alloc: Global, number: u32) -> Renewed
         requires { self.old.counts.turns < 2 ^ 63 }
-        ensures step { (store_tells : Bool) (h : List Entry) → StandsFor D.state store_tells self.old h → StandsFor D.state store_tells self.new (Renew number result ∷ h) }
+        ensures step { (store_tells : Bool) (h : List Entry)
+            → StandsFor D.state store_tells self.old h
+            → StandsFor D.state store_tells self.new (Renew number result ∷ h) }
         ensures kept { Lasts D.state self.old self.new }
         ensures store { self.new.store ≡ self.old.store }
     {

@@ -36,7 +36,7 @@ impl<D> Farm<D> {
         ensures { Collects self.old self.new front result }
     {
         let reply = take_first(&mut self.queues, front)?;
-        self.done = one_more(self.done, is_done(reply));
+        self.counts.done = one_more(self.counts.done, is_done(reply));
         Some(reply)
     }
 
@@ -44,7 +44,7 @@ impl<D> Farm<D> {
     fn no_reply(&self) -> Collected
         ensures { result ≡ collected_by None self.now.counts.stopped }
     {
-        if self.stopped {
+        if self.counts.stopped {
             Collected::Stopped
         } else {
             Collected::Empty
@@ -61,19 +61,20 @@ impl<D> Farm<D> {
     }
 
     fn note_stop(&mut self)
-        ensures { self.new ≡ record self.old { counts = record self.old.counts { stopped = true } } }
+        ensures { self.new
+            ≡ record self.old { counts = record self.old.counts { stopped = true } } }
     {
-        self.stopped = true;
+        self.counts.stopped = true;
     }
 
-    fn counts(&self) -> Tally
+    fn totals(&self) -> Tally
         ensures { result ≡ tally_of self.now.counts }
     {
         Tally {
-            asks: self.asks,
-            done: self.done,
-            stored: self.stored,
-            version: self.version,
+            asks: self.counts.asks,
+            done: self.counts.done,
+            stored: self.counts.stored,
+            version: self.counts.version,
         }
     }
 }
@@ -84,7 +85,9 @@ impl<D: TileStore> Farm<D> {
     /// memory.
     pub fn collect(&mut self, front: u32) -> Collected
         requires { self.old.counts.turns < 2 ^ 63 }
-        ensures step { (store_tells : Bool) (h : List Entry) → StandsFor D.state store_tells self.old h → StandsFor D.state store_tells self.new (Collect front result ∷ h) }
+        ensures step { (store_tells : Bool) (h : List Entry)
+            → StandsFor D.state store_tells self.old h
+            → StandsFor D.state store_tells self.new (Collect front result ∷ h) }
         ensures kept { Lasts D.state self.old self.new }
         ensures store { self.new.store ≡ self.old.store }
     {
@@ -98,7 +101,9 @@ impl<D: TileStore> Farm<D> {
     /// Forgets the open asks of the connection, and answers how many there were; what waits for them stays.
     pub fn leave(&mut self, conn: Conn) -> u32
         requires { self.old.counts.turns < 2 ^ 63 }
-        ensures step { (store_tells : Bool) (h : List Entry) → StandsFor D.state store_tells self.old h → StandsFor D.state store_tells self.new (Leave conn result ∷ h) }
+        ensures step { (store_tells : Bool) (h : List Entry)
+            → StandsFor D.state store_tells self.old h
+            → StandsFor D.state store_tells self.new (Leave conn result ∷ h) }
         ensures kept { Lasts D.state self.old self.new }
         ensures store { self.new.store ≡ self.old.store }
     {
@@ -110,7 +115,9 @@ impl<D: TileStore> Farm<D> {
     /// waits stays.
     pub fn stop(&mut self)
         requires { self.old.counts.turns < 2 ^ 63 }
-        ensures step { (store_tells : Bool) (h : List Entry) → StandsFor D.state store_tells self.old h → StandsFor D.state store_tells self.new (Stop ∷ h) }
+        ensures step { (store_tells : Bool) (h : List Entry)
+            → StandsFor D.state store_tells self.old h
+            → StandsFor D.state store_tells self.new (Stop ∷ h) }
         ensures kept { Lasts D.state self.old self.new }
         ensures store { self.new.store ≡ self.old.store }
     {
@@ -121,11 +128,13 @@ impl<D: TileStore> Farm<D> {
     /// The farm's counts.
     pub fn tally(&mut self) -> Tally
         requires { self.old.counts.turns < 2 ^ 63 }
-        ensures step { (store_tells : Bool) (h : List Entry) → StandsFor D.state store_tells self.old h → StandsFor D.state store_tells self.new (Counted result ∷ h) }
+        ensures step { (store_tells : Bool) (h : List Entry)
+            → StandsFor D.state store_tells self.old h
+            → StandsFor D.state store_tells self.new (Counted result ∷ h) }
         ensures kept { Lasts D.state self.old self.new }
         ensures store { self.new.store ≡ self.old.store }
     {
         self.count_turn();
-        self.counts()
+        self.totals()
     }
 }

@@ -33,7 +33,7 @@ impl<D> Farm<D> {
         requires maps { length saved.styles ≡ length self.old.plan.maps }
         ensures { IsAnew self.old.plan saved self.old.store self.new }
     {
-        self.turns = styles_given(styled.as_slice());
+        self.counts.turns = styles_given(styled.as_slice());
         self.styled = styled;
         self.saved = Some(saved);
     }
@@ -64,13 +64,14 @@ impl<D> Farm<D> {
             return Ok(());
         }
         self.marks.reserve_one()?;
-        self.marks.show(kept.key, self.version, true);
-        self.turns += 4;
-        self.numbers += 1;
-        self.jobs += 1;
-        self.asks += 1;
-        self.done += 1;
-        self.stored += 1;
+        self.marks.show(kept.key, self.counts.version, true);
+        let counts = &mut self.counts;
+        counts.turns += 4;
+        counts.numbers += 1;
+        counts.jobs += 1;
+        counts.asks += 1;
+        counts.done += 1;
+        counts.stored += 1;
         Ok(())
     }
 
@@ -79,7 +80,10 @@ impl<D> Farm<D> {
         requires known { past_number past < length self.old.plan.updates }
         requires turns { self.old.counts.turns < 2 ^ 63 }
         ensures done { OnOk result (ReplaysChange self.old self.new past) }
-        ensures refused { IfErr result (λ e. e ≢ ApplyFault.NoMemory → update_result (update_of self.old.plan (past_number past)) self.old.data_now ≡ Err e) }
+        ensures refused { IfErr result
+            (λ e. e ≢ ApplyFault.NoMemory
+            → update_result (update_of self.old.plan (past_number past)) self.old.data_now
+            ≡ Err e) }
         ensures stays { Stays self.old self.new }
     {
         self.count_turn();
@@ -101,10 +105,15 @@ impl<D: TileStore> Farm<D> {
         requires rise { are_rising clean.now ≡ true }
         requires fresh { IsFresh version 0 clean.now self.old.marks.shown }
         requires turns { self.old.counts.turns + 4 * how_many_of version clean.now < 2 ^ 63 }
-        ensures replayed { OnOk result ((g : List Entry) → IsReplaying D.state self.old g → IsReplaying D.state self.new (replay_keys version clean.now g)) }
+        ensures replayed { OnOk result
+            ((g : List Entry) → IsReplaying D.state self.old g
+            → IsReplaying D.state self.new (replay_keys version clean.now g)) }
         ensures fresh { OnOk result (IsFresh (version + 1) 0 clean.now self.new.marks.shown) }
-        ensures turns { OnOk result (self.new.counts.turns ≡ self.old.counts.turns + 4 * how_many_of version clean.now) }
-        ensures same { OnOk result ((self.new.counts.version ≡ self.old.counts.version) × (self.new.data_now ≡ self.old.data_now)) }
+        ensures turns { OnOk result
+            (self.new.counts.turns ≡ self.old.counts.turns + 4 * how_many_of version clean.now) }
+        ensures same { OnOk result
+            ((self.new.counts.version ≡ self.old.counts.version)
+            × (self.new.data_now ≡ self.old.data_now)) }
         ensures stays { Stays self.old self.new }
     {
         for kept in clean {
@@ -129,7 +138,8 @@ impl<D: TileStore> Farm<D> {
         requires fresh { IsFresh version 0 clean.now self.old.marks.shown }
         requires known { past_number past < length self.old.plan.updates }
         requires turns { self.old.counts.turns + 4 * how_many_of version clean.now < most_turns }
-        ensures done { OnOk result (ReplaysVersion D.state self.old self.new version past clean.now) }
+        ensures done { OnOk result
+            (ReplaysVersion D.state self.old self.new version past clean.now) }
         ensures refused { IfErr result (RefusesAt self.old version past) }
         ensures stays { Stays self.old self.new }
     {
@@ -147,16 +157,23 @@ impl<D: TileStore> Farm<D> {
         requires keys { Each (CanReplay self.old.plan) clean.now }
         requires rise { are_rising clean.now ≡ true }
         requires fresh { IsFresh 0 0 clean.now self.old.marks.shown }
-        requires turns { self.old.counts.turns + length updates.now + 4 * length clean.now < most_turns }
-        ensures replayed { OnOk result ((g : List Entry) → IsReplaying D.state self.old g → IsReplaying D.state self.new (replay_from (plan_of self.old.plan) clean.now 0 updates.now g)) }
-        ensures fits { OnOk result (apply_fault self.old.plan self.old.data_now 0 updates.now ≡ None) }
-        ensures refused { IfErr result (λ e. e ≢ ResumeFault.NoMemory → apply_fault self.old.plan self.old.data_now 0 updates.now ≡ Some e) }
+        requires turns { self.old.counts.turns + length updates.now + 4 * length clean.now
+            < most_turns }
+        ensures replayed { OnOk result
+            ((g : List Entry) → IsReplaying D.state self.old g
+            → IsReplaying D.state self.new
+            (replay_from (plan_of self.old.plan) clean.now 0 updates.now g)) }
+        ensures fits { OnOk result
+            (apply_fault self.old.plan self.old.data_now 0 updates.now ≡ None) }
+        ensures refused { IfErr result
+            (λ e. e ≢ ResumeFault.NoMemory
+            → apply_fault self.old.plan self.old.data_now 0 updates.now ≡ Some e) }
         ensures stays { Stays self.old self.new }
     {
         for (place, past) in updates.iter().enumerate() {
             self.replay_version(alloc, place as u64, *past, clean)?;
         }
-        let version = self.version;
+        let version = self.counts.version;
         self.replay_keys(version, clean)?;
         Ok(())
     }
@@ -168,9 +185,11 @@ impl<D: TileStore> Farm<D> {
         requires saved { IsSaving saved.now }
         requires shape { form_fault self.old.plan saved.now ≡ None }
         requires short { length saved.now.updates + 4 * length saved.now.clean < most_turns - 16 }
-        ensures begins { OnOk result (Begins D.state self.old.plan (Some saved.now) self.old.store self.new) }
+        ensures begins { OnOk result
+            (Begins D.state self.old.plan (Some saved.now) self.old.store self.new) }
         ensures fits { OnOk result (resume_fault self.old.plan saved.now ≡ None) }
-        ensures refused { IfErr result (λ e. e ≢ ResumeFault.NoMemory → resume_fault self.old.plan saved.now ≡ Some e) }
+        ensures refused { IfErr result
+            (λ e. e ≢ ResumeFault.NoMemory → resume_fault self.old.plan saved.now ≡ Some e) }
         ensures store { self.new.store ≡ self.old.store }
     {
         self.replay(alloc, saved.updates.as_slice(), saved.clean.as_slice())
@@ -184,9 +203,11 @@ impl<D: TileStore> Farm<D> {
         requires saved { IsSaving saved.now }
         requires shape { form_fault self.old.plan saved.now ≡ None }
         requires short { length saved.now.updates + 4 * length saved.now.clean < most_turns - 16 }
-        ensures begins { OnOk result (Begins D.state self.old.plan (Some saved.now) self.old.store self.new) }
+        ensures begins { OnOk result
+            (Begins D.state self.old.plan (Some saved.now) self.old.store self.new) }
         ensures fits { OnOk result (resume_fault self.old.plan saved.now ≡ None) }
-        ensures refused { IfErr result (λ e. e ≢ ResumeFault.NoMemory → resume_fault self.old.plan saved.now ≡ Some e) }
+        ensures refused { IfErr result
+            (λ e. e ≢ ResumeFault.NoMemory → resume_fault self.old.plan saved.now ≡ Some e) }
         ensures store { self.new.store ≡ self.old.store }
     {
         match self.give_saved(alloc, saved) {
@@ -202,9 +223,11 @@ impl<D: TileStore> Farm<D> {
         requires started { IsStarted self.old.plan self.old.store self.old }
         requires saved { IsSaving saved.now }
         requires short { length saved.now.updates + 4 * length saved.now.clean < most_turns - 16 }
-        ensures begins { OnOk result (Begins D.state self.old.plan (Some saved.now) self.old.store self.new) }
+        ensures begins { OnOk result
+            (Begins D.state self.old.plan (Some saved.now) self.old.store self.new) }
         ensures fits { OnOk result (resume_fault self.old.plan saved.now ≡ None) }
-        ensures refused { IfErr result (λ e. e ≢ ResumeFault.NoMemory → resume_fault self.old.plan saved.now ≡ Some e) }
+        ensures refused { IfErr result
+            (λ e. e ≢ ResumeFault.NoMemory → resume_fault self.old.plan saved.now ≡ Some e) }
         ensures store { self.new.store ≡ self.old.store }
     {
         match check(self.own.setup(), saved) {
@@ -232,7 +255,8 @@ impl<D: TileStore> Farm<D> {
         ensures well { IfOk result (λ f. BeginsWell (replay (plan_of plan) saved.now)) }
         ensures ranged { AreRanged plan }
         ensures fits { IfOk result (λ f. resume_fault plan saved.now ≡ None) }
-        ensures refused { IfErr result (λ e. e.1 ≢ ResumeFault.NoMemory → resume_fault plan saved.now ≡ Some e.1) }
+        ensures refused { IfErr result
+            (λ e. e.1 ≢ ResumeFault.NoMemory → resume_fault plan saved.now ≡ Some e.1) }
         ensures store { IfErr result (λ e. e.0 ≡ store) }
     {
         know_plan(&plan);

@@ -5,7 +5,7 @@ ghost use Rattle.farm_history.specs.Replays.{IsSaved};
 ghost use Rattle.farm_plan.specs.Drawings.{plan_of};
 ghost use Rattle.farm_saved.specs.Savings.{IsSaving};
 ghost use Rattle.farm_refinement.specs.Stands.{StandsFor};
-ghost use Rattle.farm_core.specs.inner.Saves.{Keeps};
+ghost use Rattle.farm_core.specs.inner.Saves.{IsSavingOf};
 
 use crate::farm::Farm;
 use farm_base::NoMemory;
@@ -15,7 +15,7 @@ use tile_store::TileStore;
 
 impl<D> Farm<D> {
     fn kept(&self, alloc: Global) -> Result<Saved, NoMemory>
-        ensures { IfOk result (Keeps self.now) }
+        ensures { IfOk result (IsSavingOf self.now) }
     {
         Ok(Saved {
             styles: Vec::from_slice(alloc, self.styled.as_slice())?,
@@ -30,8 +30,12 @@ impl<D: TileStore> Farm<D> {
     /// succeeded, in order, and exactly the clean metatiles, with their versions, by map, zoom, column and row.
     /// What is dirty is not kept.
     pub fn saved(&self, alloc: Global) -> Result<Saved, NoMemory>
-        ensures saved { IfOk result (λ s. (store_tells : Bool) (h : List Entry) → StandsFor D.state store_tells self.now h → IsSaved (plan_of self.now.plan) h s) }
-        ensures sound { IfOk result (λ s. (store_tells : Bool) (h : List Entry) → StandsFor D.state store_tells self.now h → IsSaving s) }
+        ensures saved { IfOk result
+            (λ s. (store_tells : Bool) (h : List Entry) → StandsFor D.state store_tells self.now h
+            → IsSaved (plan_of self.now.plan) h s) }
+        ensures sound { IfOk result
+            (λ s. (store_tells : Bool) (h : List Entry) → StandsFor D.state store_tells self.now h
+            → IsSaving s) }
     {
         self.kept(alloc)
     }

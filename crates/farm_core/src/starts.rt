@@ -2,6 +2,7 @@
 ghost use Rattle.std.specs.Prelude.{◌≡◌, ◌≤◌, replicate, None, IfErr, IfOk};
 ghost use Rattle.std.specs.Vec.{vec_capacity};
 ghost use Rattle.farm_plan.specs.Plans.{AreRanged, IsPlan};
+ghost use Rattle.farm_refinement.specs.inner.Events.{no_counts};
 ghost use Rattle.farm_core.specs.Begins.{Begins};
 ghost use Rattle.farm_core.specs.inner.Starts.{AreFirst, AreParts, IsStarted};
 
@@ -9,6 +10,7 @@ use crate::farm::Farm;
 use expiry_lists::Marks;
 use farm_base::NoMemory;
 use farm_plan::{FarmPlan, Limits};
+use farm_refinement::Counts;
 use render_jobs::{Share, Taken, know_plan, make_shares};
 use render_queues::Queues;
 use std::alloc::Global;
@@ -49,7 +51,9 @@ fn first_tables(
     limits: Limits,
     workers: u32,
 ) -> Result<Tables, NoMemory>
-    ensures { IfOk result (λ t. AreFirst maps limits workers t.styled.items t.taken.items t.queues (vec_capacity t.taken)) }
+    ensures { IfOk result
+        (λ t. AreFirst maps limits workers t.styled.items t.taken.items t.queues
+        (vec_capacity t.taken)) }
 {
     let styled = no_styles(alloc, maps)?;
     let taken = Vec::with_capacity(alloc, workers as usize)?;
@@ -72,7 +76,9 @@ fn first_shares(alloc: Global, plan: FarmPlan) -> Result<(Share, Vec<Share>), No
 }
 
 fn first_parts(alloc: Global, plan: FarmPlan) -> Result<Parts, NoMemory>
-    ensures { IfOk result (λ p. AreParts plan p.own p.spares.items (vec_capacity p.spares) p.tables.styled.items p.tables.taken.items p.tables.queues (vec_capacity p.tables.taken)) }
+    ensures { IfOk result
+        (λ p. AreParts plan p.own p.spares.items (vec_capacity p.spares) p.tables.styled.items
+        p.tables.taken.items p.tables.queues (vec_capacity p.tables.taken)) }
 {
     let (maps, limits, workers) = (plan.maps.len(), plan.limits, plan.workers);
     match first_shares(alloc, plan) {
@@ -88,9 +94,26 @@ fn first_parts(alloc: Global, plan: FarmPlan) -> Result<Parts, NoMemory>
     }
 }
 
+fn no_counts() -> Counts
+    ensures { result ≡ no_counts }
+{
+    Counts {
+        turns: 0,
+        stopped: false,
+        version: 0,
+        numbers: 0,
+        jobs: 0,
+        asks: 0,
+        done: 0,
+        stored: 0,
+    }
+}
+
 fn begin<D>(alloc: Global, parts: Parts, store: D) -> Farm<D>
     requires plan { IsPlan parts.own.plan }
-    requires parts { AreParts parts.own.plan parts.own parts.spares.items (vec_capacity parts.spares) parts.tables.styled.items parts.tables.taken.items parts.tables.queues (vec_capacity parts.tables.taken) }
+    requires parts { AreParts parts.own.plan parts.own parts.spares.items
+        (vec_capacity parts.spares) parts.tables.styled.items parts.tables.taken.items
+        parts.tables.queues (vec_capacity parts.tables.taken) }
     ensures { IsStarted parts.own.plan store result }
 {
     let Parts {
@@ -110,19 +133,12 @@ fn begin<D>(alloc: Global, parts: Parts, store: D) -> Farm<D>
         saved: None,
         first,
         store,
-        version: 0,
         changes: Vec::new(alloc),
         styled,
         taken,
         queues,
         marks: Marks::new(alloc),
-        turns: 0,
-        numbers: 0,
-        jobs: 0,
-        asks: 0,
-        done: 0,
-        stored: 0,
-        stopped: false,
+        counts: no_counts(),
     }
 }
 

@@ -25,7 +25,8 @@ struct Next {
 }
 
 fn next_of(alloc: Global, own: &Share, snapshot: Snapshot) -> Result<Next, NoMemory>
-    ensures { IfOk result (λ next. IsNext own.now snapshot next.own next.spares.items (vec_capacity next.spares)) }
+    ensures { IfOk result
+        (λ next. IsNext own.now snapshot next.own next.spares.items (vec_capacity next.spares)) }
 {
     let next = own.with(snapshot)?;
     let spares = make_shares(alloc, &next, own.setup().workers())?;
@@ -33,8 +34,10 @@ fn next_of(alloc: Global, own: &Share, snapshot: Snapshot) -> Result<Next, NoMem
 }
 
 fn next_data(alloc: Global, own: &Share, update: &Update) -> Result<Next, ApplyFault>
-    ensures done { IfOk result (λ next. Nexts own.now update.now next.own next.spares.items (vec_capacity next.spares)) }
-    ensures refused { IfErr result (λ e. e ≢ ApplyFault.NoMemory → update_result update.now own.now.data_now ≡ Err e) }
+    ensures done { IfOk result
+        (λ next. Nexts own.now update.now next.own next.spares.items (vec_capacity next.spares)) }
+    ensures refused { IfErr result
+        (λ e. e ≢ ApplyFault.NoMemory → update_result update.now own.now.data_now ≡ Err e) }
 {
     let snapshot = apply(alloc, own.snapshot(), update)?;
     match next_of(alloc, own, snapshot) {
@@ -46,24 +49,34 @@ fn next_data(alloc: Global, own: &Share, update: &Update) -> Result<Next, ApplyF
 impl<D> Farm<D> {
     fn next(&self, alloc: Global, number: u32) -> Result<Next, ApplyFault>
         requires { number < length self.now.plan.updates }
-        ensures done { IfOk result (λ next. Nexts (own_of self.now) (update_of self.now.plan number) next.own next.spares.items (vec_capacity next.spares)) }
-        ensures refused { IfErr result (λ e. e ≢ ApplyFault.NoMemory → update_result (update_of self.now.plan number) self.now.data_now ≡ Err e) }
+        ensures done { IfOk result
+            (λ next. Nexts (own_of self.now) (update_of self.now.plan number) next.own
+            next.spares.items (vec_capacity next.spares)) }
+        ensures refused { IfErr result
+            (λ e. e ≢ ApplyFault.NoMemory
+            → update_result (update_of self.now.plan number) self.now.data_now ≡ Err e) }
     {
         let update = self.own.setup().update(number).unwrap();
         next_data(alloc, &self.own, update)
     }
 
     fn go_on(&mut self, next: Next, past: Past) -> Result<(), NoMemory>
-        requires next { IsNext (own_of self.old) next.own.data_now next.own next.spares.items (vec_capacity next.spares) }
+        requires next { IsNext (own_of self.old) next.own.data_now next.own
+            next.spares.items (vec_capacity next.spares) }
         requires more { self.old.counts.version < self.old.counts.turns }
-        ensures done { OnOk result (self.new ≡ record self.old { data_now = next.own.data_now; changes = self.old.changes ++ past ∷ []; counts = record self.old.counts { version = self.old.counts.version + 1 } }) }
+        ensures done { OnOk result
+            (self.new ≡ record self.old {
+              data_now = next.own.data_now;
+              changes = self.old.changes ++ past ∷ [];
+              counts = record self.old.counts { version = self.old.counts.version + 1 };
+            }) }
         ensures same { IfErr result (λ e. self.new ≡ self.old) }
     {
         self.changes.push(past)?;
         let Next { own, spares } = next;
         self.own = own;
         self.spares = spares;
-        self.version += 1;
+        self.counts.version += 1;
         Ok(())
     }
 
@@ -77,7 +90,9 @@ impl<D> Farm<D> {
         requires known { number < length self.old.plan.updates }
         requires more { self.old.counts.version < self.old.counts.turns }
         ensures done { OnOk result (Advances self.old self.new number past) }
-        ensures refused { IfErr result (λ e. e ≢ ApplyFault.NoMemory → update_result (update_of self.old.plan number) self.old.data_now ≡ Err e) }
+        ensures refused { IfErr result
+            (λ e. e ≢ ApplyFault.NoMemory
+            → update_result (update_of self.old.plan number) self.old.data_now ≡ Err e) }
         ensures same { IfErr result (λ e. self.new ≡ self.old) }
     {
         match self.next(alloc, number) {
@@ -100,7 +115,7 @@ impl<D> Farm<D> {
     pub(crate) fn version(&self) -> u64
         ensures { result ≡ self.now.counts.version }
     {
-        self.version
+        self.counts.version
     }
 }
 
@@ -110,7 +125,9 @@ impl<D: TileStore> Farm<D> {
     /// After NoUpdate and Refused nothing has changed. What is shown stays as it is.
     pub fn update(&mut self, alloc: Global, number: u32) -> Updated
         requires { self.old.counts.turns < 2 ^ 63 }
-        ensures step { (store_tells : Bool) (h : List Entry) → StandsFor D.state store_tells self.old h → StandsFor D.state store_tells self.new (Changed number result ∷ h) }
+        ensures step { (store_tells : Bool) (h : List Entry)
+            → StandsFor D.state store_tells self.old h
+            → StandsFor D.state store_tells self.new (Changed number result ∷ h) }
         ensures kept { Lasts D.state self.old self.new }
         ensures store { self.new.store ≡ self.old.store }
     {

@@ -18,7 +18,12 @@ use Rattle.farm_events.specs.Seats.{plain, Seated, is_ended_by}
 -- what no event changes of a farm: its plan, what it was resumed from, its store as it was at the start,
 -- and what the store tells at the path of a saved farm
 abbrev pub lasting_of : {D : Type 0} → (D → Outside StoreTold) → FarmSeen D → LastingPart D
-lasting_of state farm = record { plan = farm.plan; saved = farm.saved; first = farm.first; beside = at_saved (state farm.store) }
+lasting_of state farm = record {
+  plan = farm.plan;
+  saved = farm.saved;
+  first = farm.first;
+  beside = at_saved (state farm.store);
+}
 
 -- the farm's history after these turns
 abbrev pub past : {D : Type 0} → LastingPart D → List (ℕ × Entry) → List Entry

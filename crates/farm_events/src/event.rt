@@ -40,7 +40,8 @@ pub trait Event: Drop {
     fn run<D: TileStore>(self, farm: &mut Farm<D>) -> Self::Answer
         requires { Ready (IsAfter D.state) (lasting_of D.state) (NeedOf (need self)) farm.old }
         ensures { Ran (IsAfter D.state) (lasting_of D.state) (NeedOf (need self)) (entry self)
-            (λ answer log part. promise self answer log part.plan part.saved) farm.old farm.new result };
+            (λ answer log part. promise self answer log part.plan part.saved)
+            farm.old farm.new result };
 
     /// Whom the answer is to wake, also that no turn was left. It promises nothing, since no contract knows who
     /// sleeps.

@@ -14,7 +14,7 @@ use Rattle.farm_history.specs.declared.answers.Collected.{Collected}
 use Rattle.farm_history.specs.Entries.{Entry, Ask, Claim, Finish, Update, Renew, Collect, Stop}
 use Rattle.farm_history.specs.Plans.{is_dirty_command}
 use Rattle.farm_history.specs.Past.{is_stopped, data_after, version, jobs, number_in, numbers, asks_made, is_done_answer, is_done, done_asks, stored_drawings}
-use Rattle.farm_refinement.specs.Seen.{Counts}
+use Rattle.farm_refinement.specs.declared.counts.Counts.{Counts}
 use Rattle.farm_refinement.specs.Stands.{CountsStand}
 use Rattle.farm_refinement.specs.inner.Events.{one_turn_more, asked_counts, claimed_counts, stored_counts, updated_counts, collected_counts, stopped_counts}
 

@@ -23,7 +23,8 @@ use Rattle.farm_plan.specs.Plans.{FarmPlan}
 use Rattle.farm_plan.specs.Drawings.{plan_of, data_of, container_bytes, key_path}
 use Rattle.render_queues.specs.Tables.{Tables, after_end}
 use Rattle.expiry_lists.specs.Marks.{MarksSeen, mark_of}
-use Rattle.farm_refinement.specs.Seen.{Counts, FarmSeen}
+use Rattle.farm_refinement.specs.declared.counts.Counts.{Counts}
+use Rattle.farm_refinement.specs.Seen.{FarmSeen}
 use Rattle.farm_refinement.specs.Stands.{text_before, QueuesStand, CountsStand, StoreStands, StandsFor}
 use Rattle.farm_plan.specs.Jobs.{JobSeen, job_key, job_text, IsFlight}
 use Rattle.farm_refinement.specs.inner.Events.{one_turn_more, stored_counts, taken_at, untaken, stale_tables}

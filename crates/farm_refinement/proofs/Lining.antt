@@ -14,6 +14,7 @@ use Rattle.farm_history.proofs.Lists.{same_key-true, find-any, find-passes, each
 use Rattle.farm_history.proofs.Queued.{how_many_in_queue, in_queue_append, in_queue_without, find_first}
 use Rattle.render_queues.specs.OneQueue.{Lines, is_below, without}
 use Rattle.render_queues.specs.Tables.{line_of, with_last, cut_from, lifted_out, first_of, next_of}
+use Rattle.render_queues.proofs.History.{same_queue-true}
 use Rattle.farm_refinement.specs.Stands.{waits_key}
 
 -- ---- words for lists
@@ -30,14 +31,6 @@ any-both p q (x ∷ xs) = go (q x) (any-both p q xs)
     go : (b : Bool) → list_any p (filter q xs) ≡ list_any (λ y. q y && p y) xs → list_any p (cond b (x ∷ filter q xs) (filter q xs)) ≡ ((b && p x) || list_any (λ y. q y && p y) xs)
     go true ih = ap (λ c. p x || c) ih
     go false ih = ih
-
-pub same_queue-true : (a b : Queue) → same_queue a b ≡ true → a ≡ b
-same_queue-true Queue.Prio Queue.Prio h = refl
-same_queue-true Queue.Request Queue.Request h = refl
-same_queue-true Queue.Low Queue.Low h = refl
-same_queue-true Queue.Dirty Queue.Dirty h = refl
-same_queue-true Queue.Bulk Queue.Bulk h = refl
-same_queue-true a b h = let never : false ≡ true = h in cc
 
 -- a key that is not there may be taken out
 pub without_absent : (k : Key) (ks : List Key) → is_in k ks ≡ false → without k ks ≡ ks

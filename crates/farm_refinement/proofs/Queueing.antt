@@ -80,7 +80,7 @@ counts_open plan t g q s =
 pub open_of_is : (plan : FarmPlan) (t : Tables) (g : List Entry) (conn : Conn) → QueuesStand plan t g → open_of t conn ≡ how_many_of conn (open_asks g)
 open_of_is plan t g conn s = counts_open plan t g (λ c. same_conn c conn) s
 
-count_all : {X : Type 0} (xs : List X) → count_by (λ x. true) xs ≡ length xs
+pub count_all : {X : Type 0} (xs : List X) → count_by (λ x. true) xs ≡ length xs
 count_all [] = refl
 count_all (x ∷ xs) = count-cons (λ y. true) x xs ∙ (ap (λ n. 1 + n) (count_all xs) ∙ omega arith)
 

@@ -25,7 +25,8 @@ use Rattle.farm_plan.specs.Plans.{FarmPlan, IsPlan}
 use Rattle.farm_plan.specs.Drawings.{update_of, data_of, reaches_of, plan_of}
 use Rattle.render_queues.specs.Tables.{Tables}
 use Rattle.expiry_lists.specs.Marks.{MarksSeen, shown_key, mark_of, clean_marks}
-use Rattle.farm_refinement.specs.Seen.{Counts, FarmSeen}
+use Rattle.farm_refinement.specs.declared.counts.Counts.{Counts}
+use Rattle.farm_refinement.specs.Seen.{FarmSeen}
 use Rattle.farm_refinement.specs.Stands.{waits_key, asked_of, failures, Accounts, HoldsShown, CountsStand, QueuesStand, StoreStands, StandsFor}
 use Rattle.farm_refinement.specs.inner.Events.{updated_counts, replayed_counts, dirtied_taken}
 use Rattle.farm_refinement.proofs.Changing.{no_fault, update_step, renew_step}
@@ -88,11 +89,11 @@ mark_redrawn p g k j q = go (same_key k j) refl
     go false other = ap (mark_at p (replay_key k g) j) (redrawn_other p false g k j q other) ∙ still (shown g j)
 
 -- what the store counts goes on to any history with as many failed calls
-still_counted : (plan : FarmPlan) (since : ℕ) (g h : List Entry) → failures plan h ≡ failures plan g → (o : Option StoreTold) → IfSome o (Accounts plan since g) → IfSome o (Accounts plan since h)
+pub still_counted : (plan : FarmPlan) (since : ℕ) (g h : List Entry) → failures plan h ≡ failures plan g → (o : Option StoreTold) → IfSome o (Accounts plan since g) → IfSome o (Accounts plan since h)
 still_counted plan since g h same None a = tt
 still_counted plan since g h same (Some t) a = record { began = a.began; failed = a.failed ∙ sym same }
 
-never : (told : Bool) → told ≡ false → told ≡ true → ⊥
+pub never : (told : Bool) → told ≡ false → told ≡ true → ⊥
 never told is h = let wrong : false ≡ true = sym is ∙ h in cc
 
 untold : (plan : FarmPlan) (since : ℕ) (g h : List Entry) (now : Outside StoreTold) → failures plan h ≡ failures plan g → StoreStands plan since false g now → StoreStands plan since false h now

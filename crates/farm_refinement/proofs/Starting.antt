@@ -38,7 +38,7 @@ no_queues : (plan : FarmPlan) → QueuesStand plan (no_tables plan.limits plan.w
 unfolding waiting flights open_asks replies_to
 no_queues plan = record { limits_are = no_limits plan.limits; workers_are = refl; waiting_is = no_keys plan.limits; taken_is = refl; asks_are = refl; ended_are = refl }
 
-no_failures : (plan : FarmPlan) → failures plan [] ≡ []
+pub no_failures : (plan : FarmPlan) → failures plan [] ≡ []
 unfolding failures
 no_failures plan = refl
 

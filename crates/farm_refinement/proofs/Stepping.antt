@@ -21,7 +21,8 @@ use Rattle.farm_plan.specs.Plans.{FarmPlan}
 use Rattle.farm_plan.specs.Drawings.{plan_of, data_of}
 use Rattle.render_queues.specs.Tables.{Tables}
 use Rattle.expiry_lists.specs.Marks.{MarksSeen, mark_of}
-use Rattle.farm_refinement.specs.Seen.{Counts, FarmSeen}
+use Rattle.farm_refinement.specs.declared.counts.Counts.{Counts}
+use Rattle.farm_refinement.specs.Seen.{FarmSeen}
 use Rattle.farm_refinement.specs.Stands.{failures, CountsStand, QueuesStand, StoreStands, StandsFor}
 use Rattle.farm_refinement.specs.inner.Events.{one_turn_more, dirtied_taken}
 use Rattle.farm_refinement.proofs.Storing.{store_quiet}

@@ -1,5 +1,5 @@
 -- What a farm is seen as.
-use Rattle.std.specs.Prelude.{ℕ, Bool, List, Option}
+use Rattle.std.specs.Prelude.{ℕ, List, Option}
 use Rattle.plain_shapes.specs.Features.{Layer}
 use Rattle.farm_history.specs.declared.saved.Past.{Past}
 use Rattle.farm_history.specs.Seen.{Taken}
@@ -7,25 +7,7 @@ use Rattle.farm_history.specs.Replays.{Saving}
 use Rattle.farm_plan.specs.Plans.{FarmPlan}
 use Rattle.render_queues.specs.Tables.{Tables}
 use Rattle.expiry_lists.specs.Marks.{MarksSeen}
-
--- what a farm counts
-pub record Counts : Type 0 where
-  -- how many calls came
-  pub turns : ℕ
-  -- whether a Stop came
-  pub stopped : Bool
-  -- how many updates succeeded
-  pub version : ℕ
-  -- how many asks were given a number
-  pub numbers : ℕ
-  -- how many drawings were claimed
-  pub jobs : ℕ
-  -- how many asks had a render command
-  pub asks : ℕ
-  -- how many asks were answered Done, or had a reply Done that was collected
-  pub done : ℕ
-  -- how many drawings were stored
-  pub stored : ℕ
+use Rattle.farm_refinement.specs.declared.counts.Counts.{Counts}
 
 -- A farm over a store of type D.
 pub record FarmSeen (D : Type 0) : Type 0 where

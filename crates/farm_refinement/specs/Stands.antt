@@ -20,7 +20,8 @@ use Rattle.farm_plan.specs.Drawings.{plan_of, data_of, container_bytes, key_path
 use Rattle.render_queues.specs.declared.asks.Asked.{Asked}
 use Rattle.render_queues.specs.Tables.{Tables, line_of}
 use Rattle.expiry_lists.specs.Marks.{mark_of}
-use Rattle.farm_refinement.specs.Seen.{Counts, FarmSeen}
+use Rattle.farm_refinement.specs.declared.counts.Counts.{Counts}
+use Rattle.farm_refinement.specs.Seen.{FarmSeen}
 
 -- Counts.
 

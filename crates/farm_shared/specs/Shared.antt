@@ -39,15 +39,20 @@ pub record Adds {T : Type 0} (e : Entry) (v w : SeatState T Entry) : Type 0 wher
   pub worn : w.worn ≡ v.worn
 
 -- All that happened so far is legal, what the farm began with and then these turns
-abbrev pub IsLegalSo : {D : Type 0} → (D → Outside StoreTold) → LastingPart D → List (ℕ × Entry) → Type 0
-IsLegalSo state part log = (store_tells : Bool) → MayTell state part store_tells → Legal (plan_of part.plan) store_tells (past part log)
+abbrev pub IsLegalSo : {D : Type 0} → (D → Outside StoreTold) → LastingPart D → List (ℕ × Entry)
+    → Type 0
+IsLegalSo state part log =
+    (store_tells : Bool) → MayTell state part store_tells
+    → Legal (plan_of part.plan) store_tells (past part log)
 
 -- A reply that a front is given, other than the front of a replay, is to an ask among its own entries: it is of the asker's connection, none of them gave that reply before, and none is a Leave of the connection after the ask
 abbrev pub OwnReply : ℕ → List (ℕ × Entry) → Collected → Type 0
-OwnReply front mine answer = front ≢ replay_front → IfReply answer (λ r. IsOnlyReply (plain (reverse mine)) r)
+OwnReply front mine answer =
+    front ≢ replay_front → IfReply answer (λ r. IsOnlyReply (plain (reverse mine)) r)
 
 -- What is left of a cell: a farm that stands for the whole history, and has what the first farm had for good. Where the closing seat has the mark of a worn cell, the history is no shorter than the limit
-pub record IsClosed {D T : Type 0} (state : D → Outside StoreTold) (limit : ℕ) (first : FarmSeen D) (v : SeatState T Entry) (farm : FarmSeen D) : Type 0 where
+pub record IsClosed {D T : Type 0} (state : D → Outside StoreTold) (limit : ℕ) (first : FarmSeen D)
+    (v : SeatState T Entry) (farm : FarmSeen D) : Type 0 where
   pub after : IsAfter state farm v.seen
   pub kept : lasting_of state farm ≡ lasting_of state first
   pub worn : v.worn ≡ true → limit ≤ length v.seen

@@ -26,8 +26,11 @@ impl<D: TileStore> SharedFarm<D> {
         ensures seat { IsSeatOf self.now seat.new }
         ensures same { SameSeat seat.old seat.new }
         ensures known { Knows seat.new }
-        ensures turn { MatchResult result (λ answer. Adds (Ask conn cmd spot answer) seat.old seat.new) (λ _. seat.new ≡ worn_out seat.old) }
-        ensures legal { IfOk result (λ _. IsLegalSo D.state (lasts D.state self.now) seat.new.seen) }
+        ensures turn { MatchResult result
+            (λ answer. Adds (Ask conn cmd spot answer) seat.old seat.new)
+            (λ _. seat.new ≡ worn_out seat.old) }
+        ensures legal { IfOk result
+            (λ _. IsLegalSo D.state (lasts D.state self.now) seat.new.seen) }
     {
         self.turn(rt, seat, farm_events::Ask { conn, cmd, spot })
     }
@@ -45,8 +48,10 @@ impl<D: TileStore> SharedFarm<D> {
         ensures seat { IsSeatOf self.now seat.new }
         ensures same { SameSeat seat.old seat.new }
         ensures known { Knows seat.new }
-        ensures turn { MatchResult result (λ answer. Adds (Collect front answer) seat.old seat.new) (λ _. seat.new ≡ worn_out seat.old) }
-        ensures legal { IfOk result (λ _. IsLegalSo D.state (lasts D.state self.now) seat.new.seen) }
+        ensures turn { MatchResult result (λ answer. Adds (Collect front answer) seat.old seat.new)
+            (λ _. seat.new ≡ worn_out seat.old) }
+        ensures legal { IfOk result
+            (λ _. IsLegalSo D.state (lasts D.state self.now) seat.new.seen) }
         ensures own { IfOk result (λ answer. OwnReply front seat.old.mine answer) }
     {
         self.turn(rt, seat, farm_events::Collect { front })
@@ -59,8 +64,10 @@ impl<D: TileStore> SharedFarm<D> {
         ensures seat { IsSeatOf self.now seat.new }
         ensures same { SameSeat seat.old seat.new }
         ensures known { Knows seat.new }
-        ensures turn { MatchResult result (λ answer. Adds (Leave conn answer) seat.old seat.new) (λ _. seat.new ≡ worn_out seat.old) }
-        ensures legal { IfOk result (λ _. IsLegalSo D.state (lasts D.state self.now) seat.new.seen) }
+        ensures turn { MatchResult result (λ answer. Adds (Leave conn answer) seat.old seat.new)
+            (λ _. seat.new ≡ worn_out seat.old) }
+        ensures legal { IfOk result
+            (λ _. IsLegalSo D.state (lasts D.state self.now) seat.new.seen) }
     {
         self.turn(rt, seat, farm_events::Leave { conn })
     }

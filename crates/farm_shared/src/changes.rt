@@ -26,8 +26,10 @@ impl<D: TileStore> SharedFarm<D> {
         ensures seat { IsSeatOf self.now seat.new }
         ensures same { SameSeat seat.old seat.new }
         ensures known { Knows seat.new }
-        ensures turn { MatchResult result (λ answer. Adds (Update number answer) seat.old seat.new) (λ _. seat.new ≡ worn_out seat.old) }
-        ensures legal { IfOk result (λ _. IsLegalSo D.state (lasts D.state self.now) seat.new.seen) }
+        ensures turn { MatchResult result (λ answer. Adds (Update number answer) seat.old seat.new)
+            (λ _. seat.new ≡ worn_out seat.old) }
+        ensures legal { IfOk result
+            (λ _. IsLegalSo D.state (lasts D.state self.now) seat.new.seen) }
     {
         self.turn(rt, seat, farm_events::Update { alloc, number })
     }
@@ -44,8 +46,10 @@ impl<D: TileStore> SharedFarm<D> {
         ensures seat { IsSeatOf self.now seat.new }
         ensures same { SameSeat seat.old seat.new }
         ensures known { Knows seat.new }
-        ensures turn { MatchResult result (λ answer. Adds (Renew number answer) seat.old seat.new) (λ _. seat.new ≡ worn_out seat.old) }
-        ensures legal { IfOk result (λ _. IsLegalSo D.state (lasts D.state self.now) seat.new.seen) }
+        ensures turn { MatchResult result (λ answer. Adds (Renew number answer) seat.old seat.new)
+            (λ _. seat.new ≡ worn_out seat.old) }
+        ensures legal { IfOk result
+            (λ _. IsLegalSo D.state (lasts D.state self.now) seat.new.seen) }
     {
         self.turn(rt, seat, farm_events::Renew { alloc, number })
     }
@@ -61,8 +65,10 @@ impl<D: TileStore> SharedFarm<D> {
         ensures seat { IsSeatOf self.now seat.new }
         ensures same { SameSeat seat.old seat.new }
         ensures known { Knows seat.new }
-        ensures turn { MatchResult result (λ answer. Adds (Restyle number answer) seat.old seat.new) (λ _. seat.new ≡ worn_out seat.old) }
-        ensures legal { IfOk result (λ _. IsLegalSo D.state (lasts D.state self.now) seat.new.seen) }
+        ensures turn { MatchResult result (λ answer. Adds (Restyle number answer) seat.old seat.new)
+            (λ _. seat.new ≡ worn_out seat.old) }
+        ensures legal { IfOk result
+            (λ _. IsLegalSo D.state (lasts D.state self.now) seat.new.seen) }
     {
         self.turn(rt, seat, farm_events::Restyle { number })
     }
@@ -74,8 +80,10 @@ impl<D: TileStore> SharedFarm<D> {
         ensures seat { IsSeatOf self.now seat.new }
         ensures same { SameSeat seat.old seat.new }
         ensures known { Knows seat.new }
-        ensures turn { MatchResult result (λ answer. Adds (Expire t answer) seat.old seat.new) (λ _. seat.new ≡ worn_out seat.old) }
-        ensures legal { IfOk result (λ _. IsLegalSo D.state (lasts D.state self.now) seat.new.seen) }
+        ensures turn { MatchResult result (λ answer. Adds (Expire t answer) seat.old seat.new)
+            (λ _. seat.new ≡ worn_out seat.old) }
+        ensures legal { IfOk result
+            (λ _. IsLegalSo D.state (lasts D.state self.now) seat.new.seen) }
     {
         self.turn(rt, seat, farm_events::Expire { tile: t })
     }
@@ -86,8 +94,10 @@ impl<D: TileStore> SharedFarm<D> {
         ensures seat { IsSeatOf self.now seat.new }
         ensures same { SameSeat seat.old seat.new }
         ensures known { Knows seat.new }
-        ensures turn { MatchResult result (λ answer. Adds (Stop) seat.old seat.new) (λ _. seat.new ≡ worn_out seat.old) }
-        ensures legal { IfOk result (λ _. IsLegalSo D.state (lasts D.state self.now) seat.new.seen) }
+        ensures turn { MatchResult result (λ answer. Adds (Stop) seat.old seat.new)
+            (λ _. seat.new ≡ worn_out seat.old) }
+        ensures legal { IfOk result
+            (λ _. IsLegalSo D.state (lasts D.state self.now) seat.new.seen) }
     {
         self.turn(rt, seat, farm_events::Stop)
     }

@@ -42,8 +42,12 @@ impl<D: TileStore> Model for Closed<D> {
 impl<D: TileStore> Closed<D> {
     /// What is kept over an orderly stop, as `Farm::saved`.
     pub fn saved(&self, alloc: Global) -> Result<Saved, NoMemory>
-        ensures saved { IfOk result (λ s. (store_tells : Bool) (h : List Entry) → StandsFor D.state store_tells self.now.0 h → IsSaved (plan_of self.now.0.plan) h s) }
-        ensures sound { IfOk result (λ s. (store_tells : Bool) (h : List Entry) → StandsFor D.state store_tells self.now.0 h → IsSaving s) }
+        ensures saved { IfOk result
+            (λ s. (store_tells : Bool) (h : List Entry) → StandsFor D.state store_tells self.now.0 h
+            → IsSaved (plan_of self.now.0.plan) h s) }
+        ensures sound { IfOk result
+            (λ s. (store_tells : Bool) (h : List Entry) → StandsFor D.state store_tells self.now.0 h
+            → IsSaving s) }
     {
         self.farm.saved(alloc)
     }
@@ -52,9 +56,11 @@ impl<D: TileStore> Closed<D> {
     /// where the store's count of faults rose.
     pub fn put_beside(&mut self, alloc: Global, path: &str, bytes: &[u8]) -> Result<(), StoreFault>
         requires { ends_with (λ a b. a == b) path.now (codes ".meta") ≡ false }
-        ensures store { StorePuts (D.state self.old.0.store) (D.state self.new.0.store) path.now bytes.now result }
+        ensures store { StorePuts (D.state self.old.0.store) (D.state self.new.0.store) path.now
+            bytes.now result }
         ensures farm { self.new ≡ (record self.old.0 { store = self.new.0.store }, self.old.1) }
-        ensures stands { (log : List (ℕ × Entry)) → IsAfter D.state self.old.0 log → IsAfter D.state self.new.0 log }
+        ensures stands { (log : List (ℕ × Entry)) → IsAfter D.state self.old.0 log
+            → IsAfter D.state self.new.0 log }
     {
         self.farm.put_beside(alloc, path, bytes)
     }

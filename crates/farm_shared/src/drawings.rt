@@ -22,10 +22,15 @@ impl<D: TileStore> SharedFarm<D> {
         ensures seat { IsSeatOf self.now seat.new }
         ensures same { SameSeat seat.old seat.new }
         ensures known { Knows seat.new }
-        ensures turn { MatchResult result (λ answer. Adds (Claim worker (claim_answer answer)) seat.old seat.new) (λ _. seat.new ≡ worn_out seat.old) }
-        ensures legal { IfOk result (λ _. IsLegalSo D.state (lasts D.state self.now) seat.new.seen) }
+        ensures turn { MatchResult result
+            (λ answer. Adds (Claim worker (claim_answer answer)) seat.old seat.new)
+            (λ _. seat.new ≡ worn_out seat.old) }
+        ensures legal { IfOk result
+            (λ _. IsLegalSo D.state (lasts D.state self.now) seat.new.seen) }
         ensures job { IfOk result (λ answer. IfJob answer (λ job.
-            IsValidJob job × (job.worker ≡ worker) × HasJob (lasts D.state self.now) seat.new.number seat.new.seen job)) }
+            IsValidJob job
+            × (job.worker ≡ worker)
+            × HasJob (lasts D.state self.now) seat.new.number seat.new.seen job)) }
     {
         self.turn(rt, seat, farm_events::Claim { worker })
     }
@@ -47,8 +52,11 @@ impl<D: TileStore> SharedFarm<D> {
         ensures seat { IsSeatOf self.now seat.new }
         ensures same { SameSeat seat.old seat.new }
         ensures known { Knows seat.new }
-        ensures turn { MatchResult result (λ answer. Adds (Finish job.ticket (is_drawn drawn) answer) seat.old seat.new) (λ _. seat.new ≡ worn_out seat.old) }
-        ensures legal { IfOk result (λ _. IsLegalSo D.state (lasts D.state self.now) seat.new.seen) }
+        ensures turn { MatchResult result
+            (λ answer. Adds (Finish job.ticket (is_drawn drawn) answer) seat.old seat.new)
+            (λ _. seat.new ≡ worn_out seat.old) }
+        ensures legal { IfOk result
+            (λ _. IsLegalSo D.state (lasts D.state self.now) seat.new.seen) }
     {
         self.turn(rt, seat, farm_events::Finish { alloc, job, drawn })
     }

@@ -24,8 +24,10 @@ impl<D: TileStore> SharedFarm<D> {
         ensures seat { IsSeatOf self.now seat.new }
         ensures same { SameSeat seat.old seat.new }
         ensures known { Knows seat.new }
-        ensures turn { MatchResult result (λ answer. Adds (Fetch spot answer) seat.old seat.new) (λ _. seat.new ≡ worn_out seat.old) }
-        ensures legal { IfOk result (λ _. IsLegalSo D.state (lasts D.state self.now) seat.new.seen) }
+        ensures turn { MatchResult result (λ answer. Adds (Fetch spot answer) seat.old seat.new)
+            (λ _. seat.new ≡ worn_out seat.old) }
+        ensures legal { IfOk result
+            (λ _. IsLegalSo D.state (lasts D.state self.now) seat.new.seen) }
     {
         self.turn(rt, seat, farm_events::Fetch { alloc, spot })
     }
@@ -36,8 +38,10 @@ impl<D: TileStore> SharedFarm<D> {
         ensures seat { IsSeatOf self.now seat.new }
         ensures same { SameSeat seat.old seat.new }
         ensures known { Knows seat.new }
-        ensures turn { MatchResult result (λ answer. Adds (Look spot answer) seat.old seat.new) (λ _. seat.new ≡ worn_out seat.old) }
-        ensures legal { IfOk result (λ _. IsLegalSo D.state (lasts D.state self.now) seat.new.seen) }
+        ensures turn { MatchResult result (λ answer. Adds (Look spot answer) seat.old seat.new)
+            (λ _. seat.new ≡ worn_out seat.old) }
+        ensures legal { IfOk result
+            (λ _. IsLegalSo D.state (lasts D.state self.now) seat.new.seen) }
     {
         self.turn(rt, seat, farm_events::Look { spot })
     }
@@ -48,8 +52,10 @@ impl<D: TileStore> SharedFarm<D> {
         ensures seat { IsSeatOf self.now seat.new }
         ensures same { SameSeat seat.old seat.new }
         ensures known { Knows seat.new }
-        ensures turn { MatchResult result (λ answer. Adds (Counted answer) seat.old seat.new) (λ _. seat.new ≡ worn_out seat.old) }
-        ensures legal { IfOk result (λ _. IsLegalSo D.state (lasts D.state self.now) seat.new.seen) }
+        ensures turn { MatchResult result (λ answer. Adds (Counted answer) seat.old seat.new)
+            (λ _. seat.new ≡ worn_out seat.old) }
+        ensures legal { IfOk result
+            (λ _. IsLegalSo D.state (lasts D.state self.now) seat.new.seen) }
     {
         self.turn(rt, seat, farm_events::Count)
     }

@@ -97,10 +97,12 @@ impl<D: TileStore> SharedFarm<D> {
     /// The farm is as it was started or resumed, but for what was put beside the metatiles: it stands for
     /// nothing, or for the replay of what it was resumed from.
     pub fn new(alloc: Global, farm: Farm<D>) -> Result<(SharedFarm<D>, Seat<D>), Farm<D>>
-        requires stands { (store_tells : Bool) → MayTell D.state (lasting_of D.state farm) store_tells
+        requires stands { (store_tells : Bool)
+            → MayTell D.state (lasting_of D.state farm) store_tells
             → StandsFor D.state store_tells farm (origin farm.plan farm.saved) }
         requires short { length (origin farm.plan farm.saved) < most_turns }
-        ensures farm { IfOk result (λ made. (made.0.about.limit ≡ most_turns) × (made.0.about.first.value.farm ≡ farm)) }
+        ensures farm { IfOk result
+            (λ made. (made.0.about.limit ≡ most_turns) × (made.0.about.first.value.farm ≡ farm)) }
         ensures seat { IfOk result (λ made. IsSeatOf made.0 made.1 × (made.1 ≡ first_of made.0)) }
         ensures err { IfErr result (λ back. back ≡ farm) }
     {
@@ -136,15 +138,20 @@ impl<D: TileStore> SharedFarm<D> {
         event: C,
     ) -> Result<C::Answer, Worn>
         requires seat { IsSeatOf self.now seat.old }
-        requires need { NeedOf (C.need event) seat.old.number seat.old.seen (lasts D.state self.now) }
+        requires need { NeedOf (C.need event) seat.old.number seat.old.seen
+            (lasts D.state self.now) }
         ensures seat { IsSeatOf self.now seat.new }
         ensures same { SameSeat seat.old seat.new }
         ensures known { Knows seat.new }
-        ensures turn { MatchResult result (λ answer. Adds (C.entry event answer) seat.old seat.new) (λ _. seat.new ≡ worn_out seat.old) }
-        ensures legal { IfOk result (λ _. IsLegalSo D.state (lasts D.state self.now) seat.new.seen) }
+        ensures turn { MatchResult result (λ answer. Adds (C.entry event answer) seat.old seat.new)
+            (λ _. seat.new ≡ worn_out seat.old) }
+        ensures legal { IfOk result
+            (λ _. IsLegalSo D.state (lasts D.state self.now) seat.new.seen) }
         ensures took { MatchResult result
-            (λ answer. Took (λ t log. IsAfter D.state t.farm log) (λ t. lasting_of D.state t.farm) self.now.about
-            (C.entry event answer) (λ log part. C.promise event answer log part.plan part.saved) seat.old seat.new)
+            (λ answer. Took (λ t log. IsAfter D.state t.farm log)
+            (λ t. lasting_of D.state t.farm) self.now.about
+            (C.entry event answer) (λ log part. C.promise event answer log part.plan part.saved)
+            seat.old seat.new)
             (λ _. seat.new ≡ worn_out seat.old) }
     {
         self.cell.turn(rt, &mut seat.seat, Turn { event })

@@ -64,7 +64,9 @@ module _ {A : Type 0} where
   -- the moves that a round made on the connection: its requests, if they are of this connection, and the replies to it
   abbrev pub made : FrontRound A → ℕ → List (Move A)
   made r c =
-      in_turn (λ (g : Gathered) ms. cond (g.reply.conn.number == c) (Gets g.reply g.behind ∷ ms) ms) r.replies
+      in_turn
+      (λ (g : Gathered) ms. cond (g.reply.conn.number == c) (Gets g.reply g.behind ∷ ms) ms)
+      r.replies
       (in_turn (λ a ms. cond (brings r.event c) (Does a ∷ ms) ms) r.acts [])
 
   -- what stands of the connection after a round, where this stood of it before
@@ -103,7 +105,8 @@ module _ {A W : Type 0} (R : Rules A W) where
     abbrev pub must : Bool
     must =
         (calls r.event c || unwrap_or r.last false)
-        || (nat_lt (length (answer_bytes R p.moves)) (length (answer_bytes R (made r c ++ p.moves))) || R.refuses (after r c p).given)
+        || (nat_lt (length (answer_bytes R p.moves)) (length (answer_bytes R (made r c ++ p.moves)))
+        || R.refuses (after r c p).given)
 
     -- where there is a reason and nothing was offered, nothing was due
     abbrev pub Offered : Type 0
@@ -114,9 +117,13 @@ module _ {A W : Type 0} (R : Rules A W) where
     closes ms reason.Ended = ends_at r.event c
     closes ms reason.Lost = loses r.event c
     closes ms reason.Cut = list_any is_cut ms
-    closes ms reason.Full = nat_lt (p.took + most_rest_bytes) (length (answer_bytes R (ms ++ p.moves)))
+    closes ms reason.Full =
+        nat_lt (p.took + most_rest_bytes) (length (answer_bytes R (ms ++ p.moves)))
     closes ms reason.Unread = R.refuses (after r c p).given
-    closes ms reason.SentWhole = is_tried r.sends c && (R.ends (ms ++ p.moves) && nat_le (length (answer_bytes R (ms ++ p.moves))) (after r c p).took)
+    closes ms reason.SentWhole =
+        is_tried r.sends c
+        && (R.ends (ms ++ p.moves)
+        && nat_le (length (answer_bytes R (ms ++ p.moves))) (after r c p).took)
     closes ms reason.SendFailed = send_fails r.sends c
     closes ms reason.NoMemory = list_any R.starves ms
     closes ms reason.Starved = false
@@ -129,15 +136,21 @@ module _ {A W : Type 0} (R : Rules A W) where
     -- it was to be offered its bytes and was not. What was done before the last two had not closed it.
     pub data MayLack : Type 0 where
       InHearing : brings r.event c ≡ true → MayLack
-      AtReply : (later earlier : List (Move A)) (reply : Reply) (behind : List Entry) → made r c ≡ later ++ Gets reply behind ∷ earlier → is_cut {A = A} (Gets reply behind) ≡ false → Unclosed earlier → MayLack
+      AtReply : (later earlier : List (Move A)) (reply : Reply) (behind : List Entry)
+          → made r c ≡ later ++ Gets reply behind ∷ earlier
+          → is_cut {A = A} (Gets reply behind) ≡ false → Unclosed earlier → MayLack
       AtOffer : must ≡ true → 0 < length due → Unclosed (made r c) → MayLack
 
     -- All that its bytes ask was asked, and each move has all its entries; but a reply of the round may lack entries where
     -- its event was the connection's Ended or Lost, where it is Cut, and after one that was Cut.
     abbrev pub HasAll : Type 0
     HasAll =
-        R.wanted (after r c p).given (wants_of R (made r c ++ p.moves)) × EachSoFar (λ ms m. R.whole ms m ≡ true) p.moves
-        × EachSoFar (λ ms m. ((ends_at r.event c || loses r.event c) || (list_any is_cut (m ∷ ms) || R.whole (ms ++ p.moves) m)) ≡ true) (made r c)
+        R.wanted (after r c p).given (wants_of R (made r c ++ p.moves))
+        × EachSoFar (λ ms m. R.whole ms m ≡ true) p.moves
+        × EachSoFar
+        (λ ms m. ((ends_at r.event c || loses r.event c)
+        || (list_any is_cut (m ∷ ms) || R.whole (ms ++ p.moves) m)) ≡ true)
+        (made r c)
 
     -- What holds of a connection that is there as the round ends: all that its bytes ask was asked and has all its
     -- entries; nothing closes it; and it was offered its bytes where there was a reason.
@@ -154,5 +167,8 @@ module _ {A W : Type 0} (R : Rules A W) where
   told_after [] t = t
   told_after (r ∷ rs) t =
       in_turn (λ (d : Departure) t. cond (is_open r d.conn) (after_close d.conn t) t) r.left
-      (in_turn (λ (s : Send) t. after_send s.conn (due R (before rs r s.conn) r s.conn) (ok_or s.taken send_fault.Failed) t) r.sends
+      (in_turn
+      (λ (s : Send) t. after_send s.conn (due R (before rs r s.conn) r s.conn)
+      (ok_or s.taken send_fault.Failed) t)
+      r.sends
       (shut_out r.event r.kept (heard r.event r.piece (told_after rs t))))

@@ -84,7 +84,9 @@ with_starved n _ = n
 -- those left with that as their cause
 abbrev pub starved_in : {A : Type 0} → List (FrontRound A) → ℕ
 starved_in [] = 0
-starved_in (r ∷ rs) = in_turn (λ (d : Departure) n. with_starved n d.why) r.left (with_refused (starved_in rs) r.event r.kept (length (there rs)))
+starved_in (r ∷ rs) =
+    in_turn (λ (d : Departure) n. with_starved n d.why) r.left
+    (with_refused (starved_in rs) r.event r.kept (length (there rs)))
 
 -- ---- entries
 
@@ -97,12 +99,17 @@ module _ {A W : Type 0} (R : Rules A W) where
   -- the entry of the Collect that gave no reply, behind others
   abbrev pub with_last : Option Bool → List Entry → List Entry
   with_last None es = es
-  with_last (Some stopped) es = es ++ Collect R.number (cond stopped collected.Stopped collected.Empty) ∷ []
+  with_last (Some stopped) es =
+      es ++ Collect R.number (cond stopped collected.Stopped collected.Empty) ∷ []
 
   -- the front's own entries, in order: in each round those of the requests, then the Collects with what stands behind them, then the Leaves
   abbrev pub own : List (FrontRound A) → List Entry
   own [] = []
   own (r ∷ rs) =
-      in_turn (λ (d : Departure) es. es ++ Leave (record { front = R.number; number = d.conn }) d.asks ∷ []) r.left
-      (with_last r.last (in_turn (λ (g : Gathered) es. es ++ Collect R.number (collected.Reply g.reply) ∷ g.behind) r.replies
+      in_turn
+      (λ (d : Departure) es. es ++ Leave (record { front = R.number; number = d.conn }) d.asks ∷ [])
+      r.left
+      (with_last r.last (in_turn
+      (λ (g : Gathered) es. es ++ Collect R.number (collected.Reply g.reply) ∷ g.behind)
+      r.replies
       (in_turn (λ (a : A) es. es ++ asked_by r.event a) r.acts (own rs))))

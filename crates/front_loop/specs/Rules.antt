@@ -26,7 +26,8 @@ pub data Move (A : Type 0) : Type 0 where
 -- the move is a reply to an ask that was cut
 abbrev pub is_cut : {A : Type 0} → Move A → Bool
 is_cut (Does a) = false
-is_cut (Gets r behind) = elim r.outcome [ outcome.Cut ↦ true | outcome.Done ↦ false | outcome.NotDone ↦ false ]
+is_cut (Gets r behind) =
+    elim r.outcome [ outcome.Cut ↦ true | outcome.Done ↦ false | outcome.NotDone ↦ false ]
 
 -- What a front makes of a connection. W is a request; A is a request that was done, with its answers.
 pub record Rules (A W : Type 0) : Type 1 where

@@ -1,4 +1,4 @@
--- What is said, and what a ask leaves, by cases.
+-- What is said, and what an ask leaves, by cases.
 use Rattle.std.proofs.Common.{◌≡◌, ◌||◌, ℕ, List, [], ◌∷◌, ◌++◌, true, false, Option, Some, None, Result, Ok, Err, inl, inr, refl, sym, ap, subst, ◌∙◌, append_assoc, append-nil}
 use Rattle.std.proofs.lemmas.Bool.{false≢true}
 use Rattle.std.specs.Prelude.{OnOk, MatchResult, option_map, unwrap_or}
@@ -42,7 +42,7 @@ put_says (Err x) text old response disposition none is e = said_none text respon
 pub idle : (c : Conn) (w : HttpAsk) (mine mine' : List Entry) (stage : Stage) (response : List ℕ) → mine' ≡ mine → DoesHttpAsk c w mine mine' stage response (Leaves reason.Starved)
 idle c w mine mine' stage response e = inl (e, refl)
 
--- a ask that was done at once: the act is its answer, and waits for nothing
+-- an ask that was done at once: the act is its answer, and waits for nothing
 did : (c : Conn) (a : Act) (mine mine' : List Entry) (stage : Stage) (response : List ℕ) (disposition : Disposition) → mine' ≡ mine ++ tile_entries c a → fits_act a ≡ true
     → (whole_act a ≡ true) × (waits_by a ≡ None) × (is_answer a ≡ true) → stage ≡ Answered → WhyOf (starves_act a) disposition → (keeps disposition ≡ true → response ≡ answer_of a)
     → DoesHttpAsk c (want a) mine mine' stage response disposition
@@ -62,7 +62,7 @@ did c a mine mine' stage response disposition is fits (whole, waits, ends) e why
       },
     )
 
--- a ask that was answered without a call
+-- an ask that was answered without a call
 pub did_refuse : (c : Conn) (w : HttpAsk) (mine : List Entry) (stage : Stage) (response text : List ℕ) (disposition : Disposition) → refusal w ≡ Some text → stage ≡ Answered
     → Says text response disposition → DoesHttpAsk c w mine mine stage response disposition
 did_refuse c w mine stage response text disposition is e says =
@@ -77,7 +77,7 @@ pub did_mark : (c : Conn) (s : Spot) (a : AskAnswer) (mine mine' : List Entry) (
     → Says dirty_answer response disposition → DoesHttpAsk c (http_ask.Dirty s) mine mine' stage response disposition
 did_mark c s a mine mine' stage response disposition is e says = did c (act.Marked s a) mine mine' stage response disposition is refl (refl, refl, refl) e says.why says.response_is
 
--- what was done at a ask was done at one that is the same
+-- what was done at an ask was done at one that is the same
 pub as_http_ask : (c : Conn) (v w : HttpAsk) (mine mine' : List Entry) (stage : Stage) (response : List ℕ) (disposition : Disposition) → v ≡ w → DoesHttpAsk c w mine mine' stage response disposition → DoesHttpAsk c v mine mine' stage response disposition
 as_http_ask c v w mine mine' stage response disposition e does = subst (λ (x : HttpAsk). DoesHttpAsk c x mine mine' stage response disposition) (sym e) does
 

@@ -31,7 +31,9 @@ use Rattle.http_handler.specs.ConnStates.{is_reading, is_answered, waits_in, spo
 
 -- a head that gets this of a spot, where these are the farm's maps by their names
 abbrev pub GetsSpot : (List ℕ → Option ℕ) → List ℕ → Kind → Spot → Type 0
-GetsSpot maps bytes k s = (p : Place) × GetsPlace bytes k p × (s ≡ record { map = maps p.name; z = p.z; x = p.x; y = p.y })
+GetsSpot maps bytes k s =
+    (p : Place) × GetsPlace bytes k p
+    × (s ≡ record { map = maps p.name; z = p.z; x = p.x; y = p.y })
 
 -- what a target asks of a spot
 abbrev pub http_ask_of : Kind → Spot → HttpAsk
@@ -85,14 +87,26 @@ pub record AskDone : Type 0 where
 
 -- what is made of an ask that is answered at once
 abbrev pub at_once : HttpAsk → (Conn → List Entry) → List ℕ → AskDone
-at_once w entries text = record { asked = w; entries = entries; waits = None; answer = Some text; starves = false; fits = true }
+at_once w entries text = record {
+  asked = w;
+  entries = entries;
+  waits = None;
+  answer = Some text;
+  starves = false;
+  fits = true;
+}
 
 -- **The asks, their entries and their answers.** A tile is fetched at once where its ask does not wait; a worn turn
 -- leaves it without its Fetch.
 abbrev pub ask_done : Act → AskDone
-ask_done (act.Refused w) = record (at_once w (λ c. []) []) { answer = refusal w; fits = is_some (refusal w) }
-ask_done (act.Asked s a) = record (at_once (http_ask.Tile s) (λ c. Ask c cmd.Render s a ∷ []) []) { waits = option_map (λ n. (n, s)) (number_in a); answer = None }
-ask_done (act.Served s a f) = record (at_once (http_ask.Tile s) (λ c. Ask c cmd.Render s a ∷ Fetch s f ∷ []) (tile_answer f)) { starves = found_no_memory f; fits = is_none (number_in a) }
+ask_done (act.Refused w) =
+    record (at_once w (λ c. []) []) { answer = refusal w; fits = is_some (refusal w) }
+ask_done (act.Asked s a) =
+    record (at_once (http_ask.Tile s) (λ c. Ask c cmd.Render s a ∷ []) [])
+    { waits = option_map (λ n. (n, s)) (number_in a); answer = None }
+ask_done (act.Served s a f) =
+    record (at_once (http_ask.Tile s) (λ c. Ask c cmd.Render s a ∷ Fetch s f ∷ []) (tile_answer f))
+    { starves = found_no_memory f; fits = is_none (number_in a) }
 ask_done (act.Seen s l) = at_once (http_ask.Status s) (λ c. Look s l ∷ []) (status_answer l)
 ask_done (act.Marked s a) = at_once (http_ask.Dirty s) (λ c. Ask c cmd.Dirty s a ∷ []) dirty_answer
 
@@ -100,14 +114,16 @@ ask_done (act.Marked s a) = at_once (http_ask.Dirty s) (λ c. Ask c cmd.Dirty s 
 abbrev pub waiting_ask : List (Move Act) → Option (ℕ × Spot)
 waiting_ask [] = None
 waiting_ask (Does a ∷ ms) = (ask_done a).waits
-waiting_ask (Gets r behind ∷ ms) = cond (is_some (spot_at r.ask (waiting_ask ms))) None (waiting_ask ms)
+waiting_ask (Gets r behind ∷ ms) =
+    cond (is_some (spot_at r.ask (waiting_ask ms))) None (waiting_ask ms)
 
 -- ---- which entries stand behind a Collect
 
 -- none, or the Fetch of the spot that waited
 abbrev pub fits_behind : Option Spot → List Entry → Bool
 fits_behind o [] = true
-fits_behind (Some s) (Fetch t f ∷ []) = option_eq (λ m n. m == n) s.map t.map && (s.z == t.z && (s.x == t.x && s.y == t.y))
+fits_behind (Some s) (Fetch t f ∷ []) =
+    option_eq (λ m n. m == n) s.map t.map && (s.z == t.z && (s.x == t.x && s.y == t.y))
 fits_behind _ _ = false
 
 -- ---- the rules
@@ -130,10 +146,15 @@ tile_rules front maps = record {
   refuses = λ given. false;
   want = λ a. (ask_done a).asked;
   entries = λ c a. (ask_done a).entries (record { front = front; number = c });
-  fits = λ ms m. by_move (λ a. (ask_done a).fits) (λ r behind. fits_behind (spot_at r.ask (waiting_ask ms)) behind) m;
-  whole = λ ms m. by_move (λ a. is_some (ask_done a).answer || is_some (ask_done a).waits) (λ r behind. is_none (spot_at r.ask (waiting_ask ms)) || (not (is_empty behind) || is_cut m)) m;
-  says = λ ms m. by_move (λ a. unwrap_or (ask_done a).answer []) (λ r behind. unwrap_or (option_map tile_answer (fetched_behind behind)) []) m;
-  starves = λ m. by_move (λ a. (ask_done a).starves) (λ r behind. unwrap_or (option_map found_no_memory (fetched_behind behind)) false) m;
+  fits = λ ms m. by_move (λ a. (ask_done a).fits)
+      (λ r behind. fits_behind (spot_at r.ask (waiting_ask ms)) behind) m;
+  whole = λ ms m. by_move (λ a. is_some (ask_done a).answer || is_some (ask_done a).waits)
+      (λ r behind. is_none (spot_at r.ask (waiting_ask ms))
+      || (not (is_empty behind) || is_cut m)) m;
+  says = λ ms m. by_move (λ a. unwrap_or (ask_done a).answer [])
+      (λ r behind. unwrap_or (option_map tile_answer (fetched_behind behind)) []) m;
+  starves = λ m. by_move (λ a. (ask_done a).starves)
+      (λ r behind. unwrap_or (option_map found_no_memory (fetched_behind behind)) false) m;
   ends = λ ms. list_any answers ms;
 }
 
@@ -148,7 +169,8 @@ http_asks (Gets r behind ∷ ms) = http_asks ms
 -- While the head is read, all bytes are kept, and nothing was asked; then one ask was. The ask that waits is kept,
 -- and whether all was answered.
 pub record Knows (given : List ℕ) (ms : List (Move Act)) (conn_state : ConnState) : Type 0 where
-  pub head : is_reading conn_state.stage ≡ true → (conn_state.head.items ≡ given) × (length given < most_head_bytes) × (http_asks ms ≡ [])
+  pub head : is_reading conn_state.stage ≡ true
+      → (conn_state.head.items ≡ given) × (length given < most_head_bytes) × (http_asks ms ≡ [])
   pub once : is_reading conn_state.stage ≡ false → (w : HttpAsk) × (http_asks ms ≡ w ∷ [])
   pub waits : waiting_ask ms ≡ waits_in conn_state.stage
   pub ends : list_any answers ms ≡ is_answered conn_state.stage

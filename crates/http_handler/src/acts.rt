@@ -18,7 +18,7 @@ pub enum HttpAsk {
     Dirty(Spot),
 }
 
-/// A ask that was done, with the answers that it got. No value of it is made.
+/// An ask that was done, with the answers that it got. No value of it is made.
 #[derive(Drop)]
 pub enum Act {
     /// Nothing was asked of the farm.

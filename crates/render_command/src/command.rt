@@ -28,7 +28,9 @@ pub fn render<F: Files, O: Sink>(
 ) -> Result<(), Stop>
     requires size { IsTileSize asked.size }
     requires tile { IsTile asked.tile }
-    ensures { Writes (render_course asked.entry.style.now asked.entry.data_file.now asked.entry.size asked.entry.tile)
+    ensures { Writes
+        (render_course asked.entry.style.now asked.entry.data_file.now
+        asked.entry.size asked.entry.tile)
         (F.state files.old) (F.state files.new) (O.state out.old) (O.state out.new) result }
 {
     let tile = picture(alloc, asked, files)?;
@@ -39,7 +41,9 @@ pub fn render<F: Files, O: Sink>(
 fn picture<F: Files>(alloc: Global, asked: RenderWords, files: &mut F) -> Result<Vec<u8>, Stop>
     requires size { IsTileSize asked.size }
     requires tile { IsTile asked.tile }
-    ensures { Follows (render_course asked.entry.style.now asked.entry.data_file.now asked.entry.size asked.entry.tile)
+    ensures { Follows
+        (render_course asked.entry.style.now asked.entry.data_file.now
+        asked.entry.size asked.entry.tile)
         (F.state files.old) (F.state files.new) (seen (λ v. v.items) result) }
 {
     let style = bound_style(alloc, files, asked.style)?;

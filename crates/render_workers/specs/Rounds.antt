@@ -21,14 +21,17 @@ pub data Round : Type 0 where
 
 -- the entries of a round of worker w, the oldest first: the Claim and, after a Job, that job's Finish
 abbrev pub round_entries : ℕ → Round → List Entry
-round_entries w (Drew ticket key version drawn answer) = Claim w (Job ticket key version) ∷ Finish ticket drawn answer ∷ []
+round_entries w (Drew ticket key version drawn answer) =
+    Claim w (Job ticket key version) ∷ Finish ticket drawn answer ∷ []
 round_entries w FoundNone = Claim w ClaimAnswer.Idle ∷ []
 round_entries w FoundMany = Claim w ClaimAnswer.Crowded ∷ []
 
 -- The entries after the last round: where the worker ends Stopped, its Claim that was answered so; where it ends Worn, nothing or a Job without its Finish
 abbrev pub LastEntries : ℕ → WorkEnd → List Entry → Type 0
 LastEntries w WorkEnd.Stopped last = last ≡ Claim w ClaimAnswer.Stopped ∷ []
-LastEntries w WorkEnd.Worn last = (last ≡ []) ⊎ ((ticket : ℕ) × (key : Key) × (version : ℕ) × (last ≡ Claim w (Job ticket key version) ∷ []))
+LastEntries w WorkEnd.Worn last =
+    (last ≡ [])
+    ⊎ ((ticket : ℕ) × (key : Key) × (version : ℕ) × (last ≡ Claim w (Job ticket key version) ∷ []))
 
 -- the entries are those of rounds of worker w, and then those of its end
 pub record WorkOf (w : ℕ) (end : WorkEnd) (es : List Entry) : Type 0 where

@@ -24,7 +24,12 @@ use Rattle.renderd_handler.specs.declared.asked.Asked.{Asked}
 
 -- the commands that are asked: renderd's numbers 1, 5, 7, 6 and 2
 abbrev pub command_of : ℕ → Option Cmd
-command_of n = cond (n == 1) (Some cmd.Render) (cond (n == 5) (Some cmd.Prio) (cond (n == 7) (Some cmd.Low) (cond (n == 6) (Some cmd.Bulk) (cond (n == 2) (Some cmd.Dirty) None))))
+command_of n =
+    cond (n == 1) (Some cmd.Render)
+    (cond (n == 5) (Some cmd.Prio)
+    (cond (n == 7) (Some cmd.Low)
+    (cond (n == 6) (Some cmd.Bulk)
+    (cond (n == 2) (Some cmd.Dirty) None))))
 
 -- an unknown version stands next
 abbrev pub is_bad : Found → Bool
@@ -62,7 +67,8 @@ with_wait None r ws = ws
 abbrev pub waiting_requests : List (Move Asked) → List (ℕ × Request)
 waiting_requests [] = []
 waiting_requests (Does a ∷ ms) = with_wait (number_in a.answer) a.request (waiting_requests ms)
-waiting_requests (Gets r behind ∷ ms) = without_first (λ (w : ℕ × Request). w.0 == r.ask) (waiting_requests ms)
+waiting_requests (Gets r behind ∷ ms) =
+    without_first (λ (w : ℕ × Request). w.0 == r.ask) (waiting_requests ms)
 
 -- the command of the answer to a reply: 3 for Done, 4 for NotDone, none for Cut
 abbrev pub outcome_command : Outcome → Option ℕ
@@ -77,14 +83,20 @@ outcome_command o = elim o [ outcome.Done ↦ Some 3 | outcome.NotDone ↦ Some 
 abbrev pub renderd_rules : ℕ → (List ℕ → Option ℕ) → Rules Asked Request
 renderd_rules front maps = record {
   number = front;
-  wanted = λ given ws. filter (λ (r : Request). is_some (command_of r.cmd)) (stream_read given).requests ≡ ws;
+  wanted = λ given ws.
+      filter (λ (r : Request). is_some (command_of r.cmd)) (stream_read given).requests ≡ ws;
   refuses = λ given. is_bad (found_in (stream_read given).rest);
   want = λ a. a.request;
-  entries = λ c a. option_to_list (option_map (λ command. Ask (record { front = front; number = c }) command (request_spot maps a.request) a.answer) (command_of a.request.cmd));
+  entries = λ c a. option_to_list (option_map
+      (λ command. Ask (record { front = front; number = c }) command
+      (request_spot maps a.request) a.answer)
+      (command_of a.request.cmd));
   fits = λ ms m. by_move (λ a. true) (λ r behind. is_empty behind) m;
   whole = λ ms m. true;
   says = λ ms m. by_move (λ (a : Asked). response_to (answer_command a.answer) a.request)
-      (λ r behind. unwrap_or (option_map (λ (w : ℕ × Request). response_to (outcome_command r.outcome) w.1) (find (λ (w : ℕ × Request). w.0 == r.ask) (waiting_requests ms))) []) m;
+      (λ r behind. unwrap_or (option_map
+      (λ (w : ℕ × Request). response_to (outcome_command r.outcome) w.1)
+      (find (λ (w : ℕ × Request). w.0 == r.ask) (waiting_requests ms))) []) m;
   starves = λ m. false;
   ends = λ ms. false;
 }

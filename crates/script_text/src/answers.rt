@@ -51,7 +51,8 @@ pub(crate) fn answer<D: TileStore>(
         × StandsFor D.state store_tells farm.old g × HandStands farm.old.plan g hand.old.items }
     ensures step { (store_tells : Bool) (g : List Entry) → StandsFor D.state store_tells farm.old g
         → HandStands farm.old.plan g hand.old.items
-        → Answers D.state store_tells farm.new farm.old.plan l.now g hand.old.items hand.new.items result }
+        → Answers D.state store_tells farm.new farm.old.plan l.now g
+        hand.old.items hand.new.items result }
     ensures kept { Lasts D.state farm.old farm.new }
 {
     match l {

@@ -36,7 +36,8 @@ pub fn run_noting<D: TileStore, O: Sink>(
     requires stands { (store_tells : Bool) × (g : List Entry)
         × StandsFor D.state store_tells farm.old g }
     ensures run { (store_tells : Bool) (g : List Entry) → StandsFor D.state store_tells farm.old g
-        → Runs farm.old.plan script.now g (λ h. StandsFor D.state store_tells farm.new h) (O.state out.old) (O.state out.new) result.failed result.end }
+        → Runs farm.old.plan script.now g (λ h. StandsFor D.state store_tells farm.new h)
+        (O.state out.old) (O.state out.new) result.failed result.end }
     ensures kept { Lasts D.state farm.old farm.new }
 {
     let mut hand = Vec::new(alloc);
@@ -79,7 +80,9 @@ pub fn run<D: TileStore, O: Sink>(
     requires stands { (store_tells : Bool) × (g : List Entry)
         × StandsFor D.state store_tells farm.old g }
     ensures run { (store_tells : Bool) (g : List Entry) → StandsFor D.state store_tells farm.old g
-        → (failed : Bool) × Runs farm.old.plan script.now g (λ h. StandsFor D.state store_tells farm.new h) (O.state out.old) (O.state out.new) failed result }
+        → (failed : Bool)
+        × Runs farm.old.plan script.now g (λ h. StandsFor D.state store_tells farm.new h)
+        (O.state out.old) (O.state out.new) failed result }
     ensures kept { Lasts D.state farm.old farm.new }
 {
     run_noting(alloc, farm, script, out).end

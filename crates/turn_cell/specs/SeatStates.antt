@@ -29,7 +29,17 @@ pub record SeatState (T E : Type 0) : Type 0 where
 module _ {T E : Type 0} where
   -- a seat by what the table's rule knows of it
   abbrev pub seat_state : TableId → View T E → SeatState T E
-  seat_state cell v = record { cell = cell; about = v.about; number = v.number; seen = v.seen; mine = v.mine; worn = v.worn; first = v.first; splits = v.splits; joined = v.joined }
+  seat_state cell v = record {
+    cell = cell;
+    about = v.about;
+    number = v.number;
+    seen = v.seen;
+    mine = v.mine;
+    worn = v.worn;
+    first = v.first;
+    splits = v.splits;
+    joined = v.joined;
+  }
 
   -- the seat is one of that cell
   abbrev pub IsSeatOf : Made T → SeatState T E → Type 0
@@ -37,11 +47,22 @@ module _ {T E : Type 0} where
 
   -- the first seat as it is made: number 0, which has seen nothing
   abbrev pub first_of : Made T → SeatState T E
-  first_of made = record { cell = made.cell; about = Some made.about; number = 0; seen = []; mine = []; worn = false; first = true; splits = 0; joined = [] }
+  first_of made = record {
+    cell = made.cell;
+    about = Some made.about;
+    number = 0;
+    seen = [];
+    mine = [];
+    worn = false;
+    first = true;
+    splits = 0;
+    joined = [];
+  }
 
   -- the seat has the number, the splits and the joins that it had, as after a turn
   abbrev pub SameSeat : SeatState T E → SeatState T E → Type 0
-  SameSeat v w = (w.number ≡ v.number) × (w.first ≡ v.first) × (w.splits ≡ v.splits) × (w.joined ≡ v.joined)
+  SameSeat v w =
+      (w.number ≡ v.number) × (w.first ≡ v.first) × (w.splits ≡ v.splits) × (w.joined ≡ v.joined)
 
   -- the seat with the mark of a worn cell
   abbrev pub worn_out : SeatState T E → SeatState T E
@@ -53,16 +74,29 @@ module _ {T E : Type 0} where
 
   -- the seat that a split gives: its number is the number of splits, it has seen as much and has no entries of its own
   abbrev pub split_right : SeatState T E → SeatState T E
-  split_right v = record v { number = v.splits + 1; mine = []; first = false; splits = 0; joined = [] }
+  split_right v = record v {
+    number = v.splits + 1;
+    mine = [];
+    first = false;
+    splits = 0;
+    joined = [];
+  }
 
   -- the first seat after a join: it has seen what either had seen, and has the mark where either had it
   abbrev pub joining : SeatState T E → SeatState T E → SeatState T E
-  joining v w = record v { seen = longer v.seen w.seen; worn = v.worn || w.worn; joined = v.joined ++ (w.number, w.mine) ∷ [] }
+  joining v w = record v {
+    seen = longer v.seen w.seen;
+    worn = v.worn || w.worn;
+    joined = v.joined ++ (w.number, w.mine) ∷ [];
+  }
 
   -- In what a seat has seen stand just its own entries, and in what the first seat has seen just those entries of each joined number
   -- that are noted with it, and none of a number above its splits.
   abbrev pub Knows : SeatState T E → Type 0
-  Knows v = (by v.number v.seen ≡ v.mine) × (v.first ≡ true → HasJoined v.joined v.seen) × (v.first ≡ true → NoneAbove v.splits v.seen)
+  Knows v =
+      (by v.number v.seen ≡ v.mine)
+      × (v.first ≡ true → HasJoined v.joined v.seen)
+      × (v.first ≡ true → NoneAbove v.splits v.seen)
 
   -- every seat that was split from the first was joined into it
   abbrev pub IsWhole : SeatState T E → Type 0
@@ -72,7 +106,8 @@ module _ {T E L : Type 0} (stands : T → List (ℕ × E) → Type 0) (lasting :
   -- What a turn did. There is a history that begins with all that the seat had seen and has no other entry of it; the seat has now
   -- seen that history and its own entry at the end. It was shorter than the limit. The value that the call was run on stood for that
   -- history, and what it left stands for it with the entry.
-  pub record Took (about : Terms T) (entry : E) (promise : List (ℕ × E) → L → Type 0) (v w : SeatState T E) : Type 0 where
+  pub record Took (about : Terms T) (entry : E) (promise : List (ℕ × E) → L → Type 0)
+      (v w : SeatState T E) : Type 0 where
     pub log : List (ℕ × E)
     pub before : T
     pub after : T

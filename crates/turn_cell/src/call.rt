@@ -33,5 +33,6 @@ pub trait Call<T: StandsFor>: Drop {
     /// Runs the call on the value, which is out of the cell meanwhile: no other turn sees it.
     fn run(self, value: &mut T) -> Self::Answer
         requires { Ready T.stands T.lasting (need self) value.old }
-        ensures { Ran T.stands T.lasting (need self) (entry self) (promise self) value.old value.new result };
+        ensures { Ran T.stands T.lasting (need self) (entry self) (promise self)
+            value.old value.new result };
 }

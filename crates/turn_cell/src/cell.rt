@@ -86,7 +86,8 @@ impl<T: StandsFor> TurnCell<T> {
         call: C,
     ) -> Result<C::Answer, Worn>
         requires seat { IsSeatOf self.now seat.old }
-        requires need { C.need call seat.old.number seat.old.seen (T.lasting self.now.about.first.value) }
+        requires need { C.need call seat.old.number seat.old.seen
+            (T.lasting self.now.about.first.value) }
         ensures seat { IsSeatOf self.now seat.new }
         ensures same { SameSeat seat.old seat.new }
         ensures known { Knows seat.new }

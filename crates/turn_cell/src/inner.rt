@@ -126,7 +126,8 @@ impl<T: StandsFor> Core<T> {
             × (place.old.me.0.counted ≡ 0)
             × (length place.old.me.1 ≡ 0) }
         ensures place { (place.new.table_id ≡ place.old.table_id) × (place.new.id ≡ place.old.id) }
-        ensures entered { Entered T.stands T.lasting self.now.table.shared.key place.old.me result place.new.me }
+        ensures entered { Entered T.stands T.lasting self.now.table.shared.key
+            place.old.me result place.new.me }
     {
         let mut looks = 0;
         for _ in rt.forever() {
@@ -164,7 +165,8 @@ impl<T: StandsFor> Core<T> {
             × (place.old.me.0.about ≡ Some self.now.table.shared.key) }
         requires holds { (place.old.me.0.holds ≡ true) × (place.old.me.0.counted ≡ 0) }
         ensures place { (place.new.table_id ≡ place.old.table_id) × (place.new.id ≡ place.old.id) }
-        ensures counted { place.new.me ≡ (counting place.old.me.0 (C.entry _asked.now.value _answer.now), place.old.me.1) }
+        ensures counted { place.new.me
+            ≡ (counting place.old.me.0 (C.entry _asked.now.value _answer.now), place.old.me.1) }
         ensures joined { KnowsJoined place.new.me.0 place.new.me.0.seen }
         ensures strangers { KnowsStrangers place.new.me.0 place.new.me.0.seen }
     {
@@ -263,7 +265,8 @@ impl<T: StandsFor> Core<T> {
             × (place.me.0.about ≡ Some self.table.shared.key) }
         requires settled { IsIdle place.me × KnowsAll place.me.0 }
         requires first { IsWhole (seat_state place.table_id place.me.0) }
-        ensures { Closes T.stands T.lasting self.table.shared.key (seat_state place.table_id place.me.0) result }
+        ensures { Closes T.stands T.lasting self.table.shared.key
+            (seat_state place.table_id place.me.0) result }
     {
         let Core {
             table,

@@ -22,7 +22,8 @@ abbrev pub with_byte : Reading → ℕ → Reading
 with_byte r b =
     cond r.long r
     (cond (b == 10) (record { lines = r.lines ++ r.part ∷ []; part = []; long = false })
-    (cond (nat_lt (length r.part) most_control_bytes) (record { lines = r.lines; part = r.part ++ b ∷ []; long = false })
+    (cond (nat_lt (length r.part) most_control_bytes)
+    (record { lines = r.lines; part = r.part ++ b ∷ []; long = false })
     (record { lines = r.lines; part = r.part; long = true })))
 
 -- these bytes more

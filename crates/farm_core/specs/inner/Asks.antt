@@ -18,7 +18,8 @@ use Rattle.render_queues.specs.declared.standing.Standing.{Standing}
 use Rattle.render_queues.specs.declared.standing.Standing.TheVariants.{Waits as InLine, Taken}
 use Rattle.render_queues.specs.Tables.{Tables, line_of, open_of, open_count, standing, is_liftable, takes_lifted}
 use Rattle.expiry_lists.specs.Marks.{mark_of, dirtied_marks}
-use Rattle.farm_refinement.specs.Seen.{Counts, FarmSeen}
+use Rattle.farm_refinement.specs.declared.counts.Counts.{Counts}
+use Rattle.farm_refinement.specs.Seen.{FarmSeen}
 use Rattle.farm_history.specs.Past.{number_in, is_done_answer}
 use Rattle.farm_refinement.specs.inner.Events.{waits_at, dirtied_taken, marked_tables, asked_tables}
 
@@ -26,27 +27,39 @@ use Rattle.farm_refinement.specs.inner.Events.{waits_at, dirtied_taken, marked_t
 abbrev pub answer_at : {D : Type 0} → FarmSeen D → Conn → Cmd → Key → AskAnswer
 answer_at farm conn command k =
     if is_clean_mark (mark_of farm.marks.shown k) then AskAnswer.Done
-    else if nat_le most_asks_of_one (open_of farm.queues conn) || nat_le most_asks (open_count farm.queues) then NotDone Backlog
-    else if list_any (λ (x : seen.Taken). same_key x.key k && x.touched) farm.taken then NotDone Overtaken
+    else if nat_le most_asks_of_one (open_of farm.queues conn)
+    || nat_le most_asks (open_count farm.queues)
+    then NotDone Backlog
+    else if list_any (λ (x : seen.Taken). same_key x.key k && x.touched) farm.taken
+    then NotDone Overtaken
     else if is_in k farm.queues.taken then Joined farm.counts.numbers
     else answer_of_waiting
-    (is_lifting command && (is_in k farm.queues.lines.dirty.keys || is_in k farm.queues.lines.bulk.keys))
+    (is_lifting command
+    && (is_in k farm.queues.lines.dirty.keys || is_in k farm.queues.lines.bulk.keys))
     (is_in k farm.queues.lines.dirty.keys) (waits_at farm.queues k)
-    (is_below (line_of farm.queues.lines (own_queue command))) (is_below farm.queues.lines.dirty) farm.counts.numbers
+    (is_below (line_of farm.queues.lines (own_queue command)))
+    (is_below farm.queues.lines.dirty) farm.counts.numbers
 
 -- what the tables must be for the change that an answer makes
 abbrev pub Needs : Tables → Queue → Key → AskAnswer → Type 0
-Needs t own k (Queued n) = (standing t k ≡ None) × (open_count t < most_asks) × (is_below (line_of t.lines own) ≡ true)
+Needs t own k (Queued n) =
+    (standing t k ≡ None) × (open_count t < most_asks) × (is_below (line_of t.lines own) ≡ true)
 Needs t own k (Joined n) = IsSome (standing t k) × (open_count t < most_asks)
-Needs t own k (Lifted n) = (is_liftable (standing t k) ≡ true) × (takes_lifted own ≡ true) × (open_count t < most_asks) × (is_below (line_of t.lines own) ≡ true)
+Needs t own k (Lifted n) =
+    (is_liftable (standing t k) ≡ true) × (takes_lifted own ≡ true) × (open_count t < most_asks)
+    × (is_below (line_of t.lines own) ≡ true)
 Needs t own k (NotDone Deferred) = (standing t k ≡ None) × (is_below t.lines.dirty ≡ true)
 Needs t own k _ = Unit {0}
 
 -- where a key stands, by what is found of it first: whether it is taken, waits, waits in the dirty queue, waits in the bulk queue
 abbrev pub StandsBy : Option Standing → Bool → Bool → Bool → Bool → Type 0
-StandsBy None flies waits dirty bulk = (flies ≡ false) × (waits ≡ false) × (dirty ≡ false) × (bulk ≡ false)
-StandsBy (Some Taken) flies waits dirty bulk = (flies ≡ true) × (waits ≡ false) × (dirty ≡ false) × (bulk ≡ false)
-StandsBy (Some (InLine q)) flies waits dirty bulk = (flies ≡ false) × (waits ≡ true) × (dirty ≡ same_queue q Queue.Dirty) × (bulk ≡ same_queue q Queue.Bulk)
+StandsBy None flies waits dirty bulk =
+    (flies ≡ false) × (waits ≡ false) × (dirty ≡ false) × (bulk ≡ false)
+StandsBy (Some Taken) flies waits dirty bulk =
+    (flies ≡ true) × (waits ≡ false) × (dirty ≡ false) × (bulk ≡ false)
+StandsBy (Some (InLine q)) flies waits dirty bulk =
+    (flies ≡ false) × (waits ≡ true)
+    × (dirty ≡ same_queue q Queue.Dirty) × (bulk ≡ same_queue q Queue.Bulk)
 
 -- an ask with a render command and that answer, beside the call
 abbrev pub rendered_counts : AskAnswer → Counts → Counts
@@ -57,14 +70,20 @@ rendered_counts answer c = record c {
 }
 
 -- the key is touched, and goes to the dirty queue where it stands nowhere
-pub record Dirties {D : Type 0} (k : Key) (old new : FarmSeen D) : Type 0 where
+pub record DirtiesKey {D : Type 0} (k : Key) (old new : FarmSeen D) : Type 0 where
   pub shown : new.marks.shown ≡ dirtied_marks (same_key k) old.marks.shown
-  pub rest : new ≡ record old { taken = dirtied_taken (same_key k) old.taken; marks = new.marks; queues = marked_tables old.queues k }
+  pub rest : new ≡ record old {
+    taken = dirtied_taken (same_key k) old.taken;
+    marks = new.marks;
+    queues = marked_tables old.queues k;
+  }
 
 -- what an ask with a render command is answered, whose metatile is given where the spot can be served
 abbrev pub rendered_at : {D : Type 0} → FarmSeen D → Conn → Cmd → Option Key → AskAnswer
-rendered_at farm conn command None = if farm.counts.stopped then NotDone Stopping else NotDone Unservable
-rendered_at farm conn command (Some k) = if farm.counts.stopped then NotDone Stopping else answer_at farm conn command k
+rendered_at farm conn command None =
+    if farm.counts.stopped then NotDone Stopping else NotDone Unservable
+rendered_at farm conn command (Some k) =
+    if farm.counts.stopped then NotDone Stopping else answer_at farm conn command k
 
 -- the tables after an ask with that answer
 abbrev pub noted_tables : Tables → Queue → Conn → Option Key → AskAnswer → Tables
@@ -74,4 +93,4 @@ noted_tables t own conn (Some k) answer = asked_tables t own k conn answer
 -- before a Stop the metatile, where there is one, is touched; else nothing has changed
 abbrev pub Dirtied : {D : Type 0} → FarmSeen D → FarmSeen D → Option Key → Type 0
 Dirtied old new None = new ≡ old
-Dirtied old new (Some k) = MatchBool old.counts.stopped (new ≡ old) (Dirties k old new)
+Dirtied old new (Some k) = MatchBool old.counts.stopped (new ≡ old) (DirtiesKey k old new)

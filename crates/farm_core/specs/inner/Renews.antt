@@ -12,10 +12,15 @@ use Rattle.farm_refinement.specs.Seen.{FarmSeen}
 use Rattle.farm_refinement.specs.inner.Events.{dirtied_taken}
 
 -- what the boxes reach is touched, among what is shown and among the drawings under way; of what is shown so many were clean. No key is shown twice
-pub record Reaches {D : Type 0} (boxes : List Bounds) (old new : FarmSeen D) (count : ℕ) : Type 0 where
+pub record Reaches {D : Type 0} (boxes : List Bounds) (old new : FarmSeen D) (count : ℕ)
+    : Type 0 where
   pub marks : Expires (is_reached old.plan.maps boxes) old.marks.shown new.marks.shown count
   pub apart : AreApart shown_key old.marks.shown
-  pub rest : new ≡ record old { taken = dirtied_taken (λ k. boxes_reach_map boxes (slice_get old.plan.maps k.map) k.meta) old.taken; marks = new.marks }
+  pub rest : new ≡ record old {
+    taken =
+        dirtied_taken (λ k. boxes_reach_map boxes (slice_get old.plan.maps k.map) k.meta) old.taken;
+    marks = new.marks;
+  }
 
 -- the update's data are the newest now, as one more version, the update is noted, and what it reaches is touched: what boxes of the features reach that it names over the old data
 pub record Renews {D : Type 0} (old new : FarmSeen D) (number count : ℕ) : Type 0 where
@@ -28,6 +33,7 @@ pub record Renews {D : Type 0} (old new : FarmSeen D) (number count : ℕ) : Typ
     data_now = new.data_now;
     changes = old.changes ++ Past.Renew number ∷ [];
     counts = record old.counts { version = old.counts.version + 1 };
-    taken = dirtied_taken (λ k. boxes_reach_map boxes (slice_get old.plan.maps k.map) k.meta) old.taken;
+    taken =
+        dirtied_taken (λ k. boxes_reach_map boxes (slice_get old.plan.maps k.map) k.meta) old.taken;
     marks = new.marks;
   }

@@ -6,7 +6,7 @@ use Rattle.farm_history.specs.Seen.{Taken}
 use Rattle.render_queues.specs.Tables.{Tables, line_of}
 use Rattle.farm_plan.specs.Plans.{FarmPlan, IsPlan}
 use Rattle.farm_plan.specs.Spots.{IsKeyOf}
-use Rattle.farm_refinement.specs.Seen.{Counts}
+use Rattle.farm_refinement.specs.declared.counts.Counts.{Counts}
 use Rattle.render_jobs.specs.Shared.{ShareSeen}
 
 -- the ticket of a drawing under way
@@ -35,7 +35,8 @@ pub record AreTaken (plan : FarmPlan) (version jobs : ℕ) (taken : List Taken) 
   pub few : length taken ≤ plan.workers
 
 -- the spare shares are of the newest data, and for each worker there is one, or a drawing under way over the newest data
-pub record AreSpares (own : ShareSeen) (version : ℕ) (spares : List ShareSeen) (taken : List Taken) : Type 0 where
+pub record AreSpares (own : ShareSeen) (version : ℕ) (spares : List ShareSeen) (taken : List Taken)
+    : Type 0 where
   pub alike : Each (λ s. s ≡ own) spares
   pub enough : length spares + how_many_at version taken ≡ own.plan.workers
 
@@ -44,7 +45,9 @@ abbrev pub AreKeysOf : FarmPlan → Tables → Type 0
 AreKeysOf plan queues = (queue : Queue) → Each (IsKeyOf plan) (line_of queues.lines queue).keys
 
 -- all of it
-pub record IsRoomy (own : ShareSeen) (spares : List ShareSeen) (taken : List Taken) (queues : Tables) (styled : List (Option ℕ)) (counts : Counts) (spares_room taken_room : ℕ) : Type 0 where
+pub record IsRoomy (own : ShareSeen) (spares : List ShareSeen) (taken : List Taken)
+    (queues : Tables) (styled : List (Option ℕ)) (counts : Counts) (spares_room taken_room : ℕ)
+    : Type 0 where
   pub is_plan : IsPlan own.plan
   pub counted : AreCounted counts
   pub are_taken : AreTaken own.plan counts.version counts.jobs taken

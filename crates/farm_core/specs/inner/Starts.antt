@@ -9,14 +9,17 @@ use Rattle.farm_refinement.specs.Seen.{FarmSeen}
 use Rattle.farm_refinement.specs.inner.Events.{new_farm}
 
 -- the tables of a farm that begins, for so many maps and workers and these limits: no map has been given a style, nothing is drawn and nothing waits, and each worker's drawing has its place
-pub record AreFirst (maps : ℕ) (limits : Limits) (workers : ℕ) (styled : List (Option ℕ)) (taken : List Taken) (queues : Tables) (taken_room : ℕ) : Type 0 where
+pub record AreFirst (maps : ℕ) (limits : Limits) (workers : ℕ) (styled : List (Option ℕ))
+    (taken : List Taken) (queues : Tables) (taken_room : ℕ) : Type 0 where
   pub unstyled : styled ≡ replicate maps None
   pub undrawn : taken ≡ []
   pub idle : queues ≡ no_tables limits workers
   pub taken_fit : workers ≤ taken_room
 
 -- the parts of a farm that begins with the plan: its share of the plan and its data, one for each worker, and the tables
-pub record AreParts (plan : FarmPlan) (own : ShareSeen) (spares : List ShareSeen) (spares_room : ℕ) (styled : List (Option ℕ)) (taken : List Taken) (queues : Tables) (taken_room : ℕ) : Type 0 where
+pub record AreParts (plan : FarmPlan) (own : ShareSeen) (spares : List ShareSeen) (spares_room : ℕ)
+    (styled : List (Option ℕ)) (taken : List Taken) (queues : Tables) (taken_room : ℕ)
+    : Type 0 where
   pub own_is : own ≡ record { plan = plan; data_now = plan.dataset }
   pub alike : spares ≡ replicate plan.workers own
   pub spares_fit : plan.workers ≤ spares_room

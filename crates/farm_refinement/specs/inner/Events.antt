@@ -30,7 +30,8 @@ use Rattle.farm_plan.specs.Drawings.{plan_of}
 use Rattle.render_queues.specs.OneQueue.{is_below}
 use Rattle.render_queues.specs.Tables.{Tables, no_tables, line_of, next_of, open_of, open_count, after_place, after_join, after_lift, is_of_front}
 use Rattle.expiry_lists.specs.Marks.{MarksSeen, mark_of}
-use Rattle.farm_refinement.specs.Seen.{Counts, FarmSeen}
+use Rattle.farm_refinement.specs.declared.counts.Counts.{Counts}
+use Rattle.farm_refinement.specs.Seen.{FarmSeen}
 
 -- ---- the beginning
 

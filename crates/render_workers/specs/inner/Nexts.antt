@@ -18,7 +18,8 @@ IsWornOut (Next.End WorkEnd.Worn) u = u.worn ≡ true
 IsWornOut _ u = Unit {0}
 
 -- a worker that has worked so far: its seat is one of the farm, with its number, splits and joins, and has gained whole rounds
-pub record IsWorking {T : Type 0} (made : Made T) (w : ℕ) (old now : SeatState T Entry) : Type 0 where
+pub record IsWorking {T : Type 0} (made : Made T) (w : ℕ) (old now : SeatState T Entry)
+    : Type 0 where
   pub seat : IsSeatOf made now
   pub same : SameSeat old now
   pub rounds : List Round

@@ -38,7 +38,20 @@ Sat T E = Me (Option T) (View T E)
 
 -- the first seat as it is made
 abbrev pub newcomer : {T E : Type 0} → Terms T → View T E
-newcomer a = record { about = Some a; number = 0; seen = []; mine = []; worn = false; tickets = []; holds = false; counted = 0; first = true; splits = 0; joined = []; heard = [] }
+newcomer a = record {
+  about = Some a;
+  number = 0;
+  seen = [];
+  mine = [];
+  worn = false;
+  tickets = [];
+  holds = false;
+  counted = 0;
+  first = true;
+  splits = 0;
+  joined = [];
+  heard = [];
+}
 
 -- a moment of the cell: its words, how often the first seat was split, the history, and each joined number with its entries
 pub record Moment (E : Type 0) : Type 0 where
@@ -49,11 +62,13 @@ pub record Moment (E : Type 0) : Type 0 where
   pub joined : List (ℕ × List (ℕ × E))
 
 -- what is so of one seat at a moment, the seat having the place j among all
-pub record Fits {T E : Type 0} (about : Terms T) (d : Moment E) (j : ℕ) (v : View T E) : Type 0 where
+pub record Fits {T E : Type 0} (about : Terms T) (d : Moment E) (j : ℕ) (v : View T E)
+    : Type 0 where
   -- it has seen the beginning of the history
   pub sees : StartsWith d.log v.seen
   -- unless it is spent: all its entries stand in what it has seen
-  pub own : (a : Terms T) → v.about ≡ Some a → (a ≡ about) × (by v.number d.log ≡ v.mine) × (by v.number v.seen ≡ v.mine)
+  pub own : (a : Terms T) → v.about ≡ Some a
+      → (a ≡ about) × (by v.number d.log ≡ v.mine) × (by v.number v.seen ≡ v.mine)
   -- its mark says that the limit was drawn
   pub worn : v.worn ≡ true → about.limit ≤ d.ticket
   -- where it has the value, its ticket is served and it has seen the whole history
@@ -63,12 +78,17 @@ pub record Fits {T E : Type 0} (about : Terms T) (d : Moment E) (j : ℕ) (v : V
   pub spent : v.about ≡ None → (v.tickets ≡ []) × (v.holds ≡ false)
   pub heard : (k : ℕ) (l : List (ℕ × E)) → get_elem? v.heard k ≡ some l → StartsWith v.seen l
   -- the first seat knows how often it was split and what was joined, and has seen every entry of a joined number
-  pub first : v.first ≡ true → (j ≡ 0) × (v.splits ≡ d.splits) × (v.joined ≡ d.joined) × HasJoined d.joined v.seen
+  pub first : v.first ≡ true
+      → (j ≡ 0) × (v.splits ≡ d.splits) × (v.joined ≡ d.joined) × HasJoined d.joined v.seen
 
 module _ {T E L : Type 0} (stands : T → List (ℕ × E) → Type 0) (lasting : T → L) where
   -- the value is at home, stands for the whole history and has the cell's lasting part
   abbrev pub AtHome : Terms T → List (ℕ × E) → List (mathlib.Core.Option.Option (Option T)) → Type 0
-  AtHome about log homes = (x : T) × (get_elem? homes 0 ≡ some (some (Some x))) × stands x log × (lasting x ≡ lasting about.first.value)
+  AtHome about log homes =
+      (x : T)
+      × (get_elem? homes 0 ≡ some (some (Some x)))
+      × stands x log
+      × (lasting x ≡ lasting about.first.value)
 
   -- what holds at every moment of the cell's words, of its value and of its seats
   pub record Kept (about : Terms T) (s : State (Option T) (View T E)) : Type 0 where
@@ -81,10 +101,12 @@ module _ {T E L : Type 0} (stands : T → List (ℕ × E) → Type 0) (lasting :
     -- the tickets from the one that is served to below the next one are with the seats, each with one
     pub tickets : (f : ℕ → ℕ) → below f now.serving + sum_by (drawn f) s.views ≡ below f now.ticket
     -- the numbers from 0 to the splits are those of the seats and of the joined, each once
-    pub numbers : (f : ℕ → ℕ) → sum_by (named f) s.views + sum_by (gone f) now.joined ≡ below f (suc now.splits)
+    pub numbers : (f : ℕ → ℕ)
+        → sum_by (named f) s.views + sum_by (gone f) now.joined ≡ below f (suc now.splits)
     -- there are as many entries as turns were served, and one more from the step that counts to the step that serves
     pub counted : length now.log ≡ now.serving + sum_by (λ v. v.counted) s.views
-    pub home : ((j : ℕ) (v : View T E) → get_elem? s.views j ≡ some v → v.holds ≡ false) → AtHome about now.log s.homes
+    pub home : ((j : ℕ) (v : View T E) → get_elem? s.views j ≡ some v → v.holds ≡ false)
+        → AtHome about now.log s.homes
     -- a joined number has no entry but those at its end, and a number above the splits has none
     pub past : HasJoined now.joined now.log
     pub strangers : NoneAbove now.splits now.log

@@ -36,7 +36,9 @@ module _ {T E : Type 0} where
   -- the seat after a try to draw a ticket: with the mark where it found the limit, with the ticket where it found the number
   -- that it expected, and as before where it found any other
   abbrev pub after_draw : ℕ → View T E → ℕ → View T E
-  after_draw old v found = cond (found == limit_of v.about) (record v { worn = true }) (cond (found == old) (record v { tickets = found ∷ [] }) v)
+  after_draw old v found =
+      cond (found == limit_of v.about) (record v { worn = true })
+      (cond (found == old) (record v { tickets = found ∷ [] }) v)
 
   -- a try to draw a ticket changes the seat by the number that it found, and nothing else
   abbrev pub drew : Step (Option T) → Sat T E → ℕ → Sat T E → Type 0
@@ -48,12 +50,18 @@ module _ {T E : Type 0} where
 
   -- the seat that has counted its entry: this stands last in what it has seen and among its own
   abbrev pub counting : View T E → E → View T E
-  counting v e = record v { seen = v.seen ++ (v.number, e) ∷ []; mine = v.mine ++ (v.number, e) ∷ []; counted = 1 }
+  counting v e = record v {
+    seen = v.seen ++ (v.number, e) ∷ [];
+    mine = v.mine ++ (v.number, e) ∷ [];
+    counted = 1;
+  }
 
   -- a step that counts an entry leaves the seat with it, and what a first seat knows holds with the entry too
   abbrev pub counted_as : Option E → Step (Option T) → Sat T E → ℕ → Sat T E → Type 0
   counted_as said st m r n = (e : E) → said ≡ Some e
-      → (n ≡ (counting m.0 e, m.1)) × KnowsJoined m.0 (m.0.seen ++ (m.0.number, e) ∷ []) × KnowsStrangers m.0 (m.0.seen ++ (m.0.number, e) ∷ [])
+      → (n ≡ (counting m.0 e, m.1))
+      × KnowsJoined m.0 (m.0.seen ++ (m.0.number, e) ∷ [])
+      × KnowsStrangers m.0 (m.0.seen ++ (m.0.number, e) ∷ [])
 
   -- the seat that has served the next ticket: it has no ticket and no value
   abbrev pub leaving : View T E → View T E
@@ -65,7 +73,12 @@ module _ {T E : Type 0} where
 
   -- The look after a join: it changes nothing, and tells what the rule knows of the seat.
   abbrev pub learned : Step (Option T) → Sat T E → ℕ → Sat T E → Type 0
-  learned st m r n = (n ≡ m) × KnowsHeard m.0 × KnowsOwn m.0 × KnowsJoined m.0 m.0.seen × KnowsStrangers m.0 m.0.seen
+  learned st m r n =
+      (n ≡ m)
+      × KnowsHeard m.0
+      × KnowsOwn m.0
+      × KnowsJoined m.0 m.0.seen
+      × KnowsStrangers m.0 m.0.seen
 
   -- the first seat after a split, which it counts
   abbrev pub split_first : View T E → View T E
@@ -73,21 +86,51 @@ module _ {T E : Type 0} where
 
   -- the seat that a split gives: it has the next number, has seen as much, and has no entries of its own
   abbrev pub split_new : View T E → View T E
-  split_new v = record v { number = v.splits + 1; mine = []; tickets = []; holds = false; counted = 0; first = false; splits = 0; joined = []; heard = [] }
+  split_new v = record v {
+    number = v.splits + 1;
+    mine = [];
+    tickets = [];
+    holds = false;
+    counted = 0;
+    first = false;
+    splits = 0;
+    joined = [];
+    heard = [];
+  }
 
   -- the first seat after a join: it has seen what either had seen, and notes the number of the other with its entries
   abbrev pub joining_views : View T E → View T E → View T E
-  joining_views v w = record v { seen = longer v.seen w.seen; worn = v.worn || w.worn; joined = v.joined ++ (w.number, w.mine) ∷ []; heard = v.seen ∷ w.seen ∷ [] }
+  joining_views v w = record v {
+    seen = longer v.seen w.seen;
+    worn = v.worn || w.worn;
+    joined = v.joined ++ (w.number, w.mine) ∷ [];
+    heard = v.seen ∷ w.seen ∷ [];
+  }
 
   -- a seat after it was joined into the first: nothing is left with it
   abbrev pub spent : View T E
-  spent = record { about = None; number = 0; seen = []; mine = []; worn = false; tickets = []; holds = false; counted = 0; first = false; splits = 0; joined = []; heard = [] }
+  spent = record {
+    about = None;
+    number = 0;
+    seen = [];
+    mine = [];
+    worn = false;
+    tickets = [];
+    holds = false;
+    counted = 0;
+    first = false;
+    splits = 0;
+    joined = [];
+    heard = [];
+  }
 
 module _ {T E L : Type 0} (stands : T → List (ℕ × E) → Type 0) (lasting : T → L) where
   -- the value is out with the seat: it stands for the history, which the seat has now seen, and has the cell's lasting part
   abbrev pub Gets : Sat T E → Sat T E → Type 0
-  Gets m n = (x : T) × (log : List (ℕ × E)) × (n ≡ (holding m.0 log, (0, Some x) ∷ m.1)) × stands x log
-      × ((a : Terms T) → m.0.about ≡ Some a → (lasting x ≡ lasting a.first.value) × (length log < a.limit) × (a.limit ≤ most_turns))
+  Gets m n =
+      (x : T) × (log : List (ℕ × E)) × (n ≡ (holding m.0 log, (0, Some x) ∷ m.1)) × stands x log
+      × ((a : Terms T) → m.0.about ≡ Some a
+      → (lasting x ≡ lasting a.first.value) × (length log < a.limit) × (a.limit ≤ most_turns))
       × Follows m.0.number m.0.seen log × KnowsJoined m.0 log × KnowsStrangers m.0 log
 
   -- a look whether the seat's ticket is served: if it is, the value comes to the seat, and else nothing changes

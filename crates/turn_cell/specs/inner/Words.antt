@@ -31,5 +31,13 @@ module _ {T E : Type 0} where
 module _ {T E L : Type 0} (stands : T → List (ℕ × E) → Type 0) (lasting : T → L) where
   -- the value is in the caller's hands, and the slot is empty and out with the seat
   abbrev pub Entered : Terms T → Sat T E → T → Sat T E → Type 0
-  Entered about m x n = (log : List (ℕ × E)) × (n ≡ (holding m.0 log, (0, None) ∷ [])) × stands x log × (lasting x ≡ lasting about.first.value)
-      × (length log < about.limit) × (about.limit ≤ most_turns) × Follows m.0.number m.0.seen log × KnowsJoined m.0 log × KnowsStrangers m.0 log
+  Entered about m x n =
+      (log : List (ℕ × E))
+      × (n ≡ (holding m.0 log, (0, None) ∷ []))
+      × stands x log
+      × (lasting x ≡ lasting about.first.value)
+      × (length log < about.limit)
+      × (about.limit ≤ most_turns)
+      × Follows m.0.number m.0.seen log
+      × KnowsJoined m.0 log
+      × KnowsStrangers m.0 log

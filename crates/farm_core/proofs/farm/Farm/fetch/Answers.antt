@@ -1,10 +1,10 @@
-use Rattle.std.proofs.Common.{◌≡◌, true, sym, ap, ◌∙◌, subst}
+use Rattle.std.proofs.Common.{sym, ap, ◌∙◌, subst}
+use Rattle.plain_world.specs.declared.world.Tile.{Tile}
 use Rattle.plain_world.specs.World.{index_place}
 use Rattle.farm_history.specs.declared.keys.Key.{Key}
 use Rattle.farm_history.specs.Plans.{is_servable, spot_tile}
 use Rattle.farm_plan.specs.Plans.{FarmPlan}
 use Rattle.farm_plan.specs.Drawings.{plan_of}
-use Rattle.farm_plan.proofs.Spots.{spot_of}
 use Rattle.expiry_lists.specs.Marks.{mark_of}
 use Rattle.farm_refinement.specs.Seen.{FarmSeen}
 use Rattle.farm_core.specs.inner.Effects.{Fetches, turn}
@@ -29,9 +29,7 @@ returns-in_default-of-clause-step g c = λ told h s.
     fetch_missing g.D.TileStore.state told c.args.self.now c.count_turn.new.self h c.args.spot c.count_turn.ensures.turned on missing s
 
 pub read-requires-clause-tile : goal.read-requires-clause-tile
-read-requires-clause-tile g c =
-    let on : is_servable (plan_of c.self.inside.own.plan) c.args.spot ≡ true = ap (λ (p : FarmPlan). is_servable (plan_of p) c.args.spot) (sym c.setup.ensures) ∙ sym c.in-Some.ensures.served in
-    (spot_of c.self.inside.own.plan c.args.spot c.self.invariant.is_plan on).tile
+read-requires-clause-tile g c = c.in-Some.ensures.tile.1
 
 pub returns-clause-step : goal.returns-clause-step
 returns-clause-step g c = λ told h s.
@@ -40,7 +38,8 @@ returns-clause-step g c = λ told h s.
     let on = sym (c.in-Some.ensures.served ∙ ap (λ (p : FarmPlan). is_servable (plan_of p) c.args.spot) plan) in
     let key = c.in-Some.ensures.key.0 in
     let marked = ap (λ (k : Key). mark_of c.args.self.now.marks.shown k) (sym key) ∙ ap {A = FarmSeen g.row.D.Denot} (λ f. mark_of f.marks.shown c.in-Some.key) (sym turned) ∙ sym c.of.ensures ∙ c.in-Some-of.is in
-    let fetched = subst (λ (f : FarmSeen g.row.D.Denot). Fetches g.D.TileStore.state f c.read.new.self c.in-Some.key (index_place (spot_tile c.args.spot)) c.in-Some-of.mark c.read.result) c.count_turn.ensures.turned c.read.ensures in
+    let read = subst (λ (tile : Tile). Fetches g.D.TileStore.state c.count_turn.new.self c.read.new.self c.in-Some.key (index_place tile) c.in-Some-of.mark c.read.result) c.in-Some.ensures.tile.0 c.read.ensures in
+    let fetched = subst (λ (f : FarmSeen g.row.D.Denot). Fetches g.D.TileStore.state f c.read.new.self c.in-Some.key (index_place (spot_tile c.args.spot)) c.in-Some-of.mark c.read.result) c.count_turn.ensures.turned read in
     fetch_read g.D.TileStore.state told c.args.self.now c.read.new.self h c.args.spot c.in-Some-of.mark c.read.result on marked
     (subst (λ (k : Key). Fetches g.D.TileStore.state (turn c.args.self.now) c.read.new.self k (index_place (spot_tile c.args.spot)) c.in-Some-of.mark c.read.result) key fetched) s
 
@@ -67,6 +66,7 @@ returns-clause-reads g c =
     let on = sym (c.in-Some.ensures.served ∙ ap (λ (p : FarmPlan). is_servable (plan_of p) c.args.spot) plan) in
     let key = c.in-Some.ensures.key.0 in
     let marked = ap (λ (k : Key). mark_of c.args.self.now.marks.shown k) (sym key) ∙ ap {A = FarmSeen g.row.D.Denot} (λ f. mark_of f.marks.shown c.in-Some.key) (sym turned) ∙ sym c.of.ensures ∙ c.in-Some-of.is in
-    let fetched = subst (λ (f : FarmSeen g.row.D.Denot). Fetches g.D.TileStore.state f c.read.new.self c.in-Some.key (index_place (spot_tile c.args.spot)) c.in-Some-of.mark c.read.result) c.count_turn.ensures.turned c.read.ensures in
+    let read = subst (λ (tile : Tile). Fetches g.D.TileStore.state c.count_turn.new.self c.read.new.self c.in-Some.key (index_place tile) c.in-Some-of.mark c.read.result) c.in-Some.ensures.tile.0 c.read.ensures in
+    let fetched = subst (λ (f : FarmSeen g.row.D.Denot). Fetches g.D.TileStore.state f c.read.new.self c.in-Some.key (index_place (spot_tile c.args.spot)) c.in-Some-of.mark c.read.result) c.count_turn.ensures.turned read in
     tile_read g.D.TileStore.state c.args.self.now c.read.new.self c.args.spot c.in-Some-of.mark c.read.result on marked
     (subst (λ (k : Key). Fetches g.D.TileStore.state (turn c.args.self.now) c.read.new.self k (index_place (spot_tile c.args.spot)) c.in-Some-of.mark c.read.result) key fetched)

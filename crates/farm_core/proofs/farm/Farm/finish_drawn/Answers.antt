@@ -8,7 +8,7 @@ use Rattle.farm_refinement.specs.Seen.{FarmSeen}
 use Rattle.farm_plan.specs.Jobs.{JobSeen, job_key}
 use Rattle.farm_refinement.specs.inner.Events.{taken_at, untaken}
 use Rattle.farm_core.specs.Answers.{drawn_bytes}
-use Rattle.farm_core.specs.inner.Effects.{IsTaken, Keeps, turn}
+use Rattle.farm_core.specs.inner.Effects.{IsTaken, EndsDrawing, turn}
 use Rattle.farm_core.proofs.Flown.{flight_taken, flight_of_plan, flight_stands, taken_turned}
 use Rattle.farm_core.proofs.Lasting.{lasts_as, lasts_kept, lasts_on}
 use Rattle.farm_core.proofs.Putting.{puts_bytes}
@@ -39,9 +39,9 @@ returns-clause-step g c = λ told h s flight.
     let released = c.release-touched.ensures.farm ∙ ap {A = FarmSeen g.row.D.Denot} (λ f. record f { taken = untaken c.args.job.ticket f.taken }) c.count_turn.ensures.turned in
     let version = ap (λ (j : JobSeen). j.version) c.job.view_is in
     let bytes = drawn_bytes c.args.drawn.now in
-    let kept = subst (λ (v : ℕ). Keeps g.D.TileStore.state (record (turn c.args.self.now) { taken = untaken c.args.job.ticket c.args.self.now.taken }) c.keep.new.self (job_key c.args.job) v c.release-touched.result bytes c.keep.result) version
-    (subst (λ (k : Key). Keeps g.D.TileStore.state (record (turn c.args.self.now) { taken = untaken c.args.job.ticket c.args.self.now.taken }) c.keep.new.self k c.job.inside.version c.release-touched.result bytes c.keep.result) c.key-key.ensures
-    (subst (λ (f : FarmSeen g.row.D.Denot). Keeps g.D.TileStore.state f c.keep.new.self c.key-key.result c.job.inside.version c.release-touched.result bytes c.keep.result) released c.keep.ensures)) in
+    let kept = subst (λ (v : ℕ). EndsDrawing g.D.TileStore.state (record (turn c.args.self.now) { taken = untaken c.args.job.ticket c.args.self.now.taken }) c.keep.new.self (job_key c.args.job) v c.release-touched.result bytes c.keep.result) version
+    (subst (λ (k : Key). EndsDrawing g.D.TileStore.state (record (turn c.args.self.now) { taken = untaken c.args.job.ticket c.args.self.now.taken }) c.keep.new.self k c.job.inside.version c.release-touched.result bytes c.keep.result) c.key-key.ensures
+    (subst (λ (f : FarmSeen g.row.D.Denot). EndsDrawing g.D.TileStore.state f c.keep.new.self c.key-key.result c.job.inside.version c.release-touched.result bytes c.keep.result) released c.keep.ensures)) in
     let touched = ap {A = FarmSeen g.row.D.Denot} (λ f. option_map (λ (t : Taken). t.touched) (taken_at f.taken c.args.job.ticket)) (sym c.count_turn.ensures.turned) ∙ c.release-touched.ensures.touched in
     finish_kept g.D.TileStore.state told c.args.self.now c.keep.new.self h c.args.job c.release-touched.result bytes c.keep.result flight touched c.requires.drawing kept s
 

@@ -63,7 +63,7 @@ loop-place-preserved g c =
 
 pub returns-clause-replayed : goal.returns-clause-replayed
 returns-clause-replayed g c =
-    let is : c.self.inside.version ≡ c.loop-place.place = ap (λ (f : FarmSeen g.row.D.Denot). f.counts.version) c.self.view_is ∙ c.loop-place.invariant.version in
+    let is : c.self.inside.counts.version ≡ c.loop-place.place = ap (λ (f : FarmSeen g.row.D.Denot). f.counts.version) c.self.view_is ∙ c.loop-place.invariant.version in
     let keys = subst (λ (v : ℕ). (h : List Entry) → IsReplaying g.D.TileStore.state c.loop-place.self h → IsReplaying g.D.TileStore.state c.replay_keys.new.self (replay_keys v c.args.clean.now h)) is c.in_ok-replay_keys.ensures.replayed in
     λ h r. versions_all g.D.TileStore.state (plan_of c.args.self.now.plan) c.loop-place.self c.replay_keys.new.self c.args.clean.now c.loop-place.place c.args.updates.now h c.loop-place-test.false keys (c.loop-place.invariant.replaying h r)
 

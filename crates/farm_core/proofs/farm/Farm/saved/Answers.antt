@@ -6,7 +6,7 @@ use Rattle.farm_history.specs.Replays.{Saving, IsSaved}
 use Rattle.farm_plan.specs.Drawings.{plan_of}
 use Rattle.farm_saved.specs.Savings.{IsSaving}
 use Rattle.farm_refinement.specs.Stands.{StandsFor}
-use Rattle.farm_core.specs.inner.Saves.{Keeps}
+use Rattle.farm_core.specs.inner.Saves.{IsSavingOf}
 use Rattle.farm_core.proofs.Savable.{kept_saved, kept_sound}
 use Rattle.farm_core.proofs.farm.Farm.saved.Goals as goal
 
@@ -17,9 +17,9 @@ where_ok (Err e) P Q f h = tt
 pub returns : goal.returns
 returns g c = record {
   saved =
-      where_ok c.kept.result (Keeps c.args.self.now) (λ (s : Saving). (told : Bool) (h : List Entry) → StandsFor g.D.TileStore.state told c.args.self.now h → IsSaved (plan_of c.args.self.now.plan) h s)
+      where_ok c.kept.result (IsSavingOf c.args.self.now) (λ (s : Saving). (told : Bool) (h : List Entry) → StandsFor g.D.TileStore.state told c.args.self.now h → IsSaved (plan_of c.args.self.now.plan) h s)
       (λ s k told h stands. kept_saved g.D.TileStore.state told c.args.self.now h s k stands) c.kept.ensures;
   sound =
-      where_ok c.kept.result (Keeps c.args.self.now) (λ (s : Saving). (told : Bool) (h : List Entry) → StandsFor g.D.TileStore.state told c.args.self.now h → IsSaving s)
+      where_ok c.kept.result (IsSavingOf c.args.self.now) (λ (s : Saving). (told : Bool) (h : List Entry) → StandsFor g.D.TileStore.state told c.args.self.now h → IsSaving s)
       (λ s k told h stands. kept_sound g.D.TileStore.state told c.args.self.now h s k stands) c.kept.ensures;
 }

@@ -6,4 +6,4 @@ use Rattle.farm_core.proofs.farm.Farm.tally.Goals as goal
 
 pub returns-clause-step : goal.returns-clause-step
 returns-clause-step g c = λ told h s.
-    tally_told g.D.TileStore.state told _ _ h _ c.count_turn.ensures.turned (c.counts.ensures ∙ ap {A = FarmSeen g.row.D.Denot} (λ f. tally_of f.counts) c.count_turn.ensures.turned) s
+    tally_told g.D.TileStore.state told _ _ h _ c.count_turn.ensures.turned (c.totals.ensures ∙ ap {A = FarmSeen g.row.D.Denot} (λ f. tally_of f.counts) c.count_turn.ensures.turned) s
