@@ -26,7 +26,7 @@ pub enum Heard {
 /// A connection.
 #[derive(Drop)]
 pub struct Link {
-    conn: u32,
+    pub(crate) conn: u32,
     stream: Stream,
     // the peer sends no more, and no event comes any more
     ended: bool,
@@ -65,10 +65,6 @@ impl Link {
             asks: false,
             queued: false,
         })
-    }
-
-    pub(crate) fn conn(&self) -> u32 {
-        self.conn
     }
 
     /// Notes what the system says of the connection. Whether it is to be queued: there is something, and

@@ -170,7 +170,7 @@ impl<R: Net + rt::Files> SocketPorts<R> {
         ensures { IfSome result (λ place. place < vec_len self.now.links) }
     {
         self.links
-            .binary_search_by_key(&conn, |link| link.conn())
+            .binary_search_by_key(&conn, |link| link.conn)
             .ok()
     }
 
@@ -190,26 +190,22 @@ impl<R: Net + rt::Files> SocketPorts<R> {
         self.crowded = false;
     }
 
-    fn is_idle(&self) -> bool {
-        self.queue.is_empty() && !self.can_accept && !self.woken
-    }
-
-    fn patience(&self) -> Option<Duration> {
-        if !self.is_idle() {
-            Some(Duration::ZERO)
-        } else if self.crowded {
-            Some(Duration::from_millis(CROWDED))
-        } else {
-            None
-        }
-    }
-
-    fn note(&mut self) -> io::Result<()>
+    // Sees what is new, where nothing is known of or many events were given in a row. It waits only where nothing is
+    // known of.
+    fn refresh(&mut self) -> io::Result<()>
         ensures { self.new.faults ≡ self.old.faults }
     {
+        let idle = self.queue.is_empty() && !self.can_accept && !self.woken;
+        if !idle && self.given < TURN {
+            return Ok(());
+        }
         self.given = 0;
         self.queue.reserve(self.links.len())?;
-        let patience = self.patience();
+        let patience = match (idle, self.crowded) {
+            (false, _) => Some(Duration::ZERO),
+            (true, true) => Some(Duration::from_millis(CROWDED)),
+            (true, false) => None,
+        };
         let Some(watch) = &mut self.watch else {
             return Err(io::Error::from(io::ErrorKind::NotConnected));
         };
@@ -224,7 +220,7 @@ impl<R: Net + rt::Files> SocketPorts<R> {
                     let Ok(conn) = u32::try_from(token) else {
                         continue;
                     };
-                    let found = self.links.binary_search_by_key(&conn, |link| link.conn());
+                    let found = self.links.binary_search_by_key(&conn, |link| link.conn);
                     let Ok(place) = found else {
                         continue;
                     };
@@ -238,26 +234,14 @@ impl<R: Net + rt::Files> SocketPorts<R> {
         Ok(())
     }
 
-    fn refresh(&mut self) -> io::Result<()>
-        ensures { self.new.faults ≡ self.old.faults }
-    {
-        if self.given >= TURN || self.is_idle() {
-            return self.note();
-        }
-        Ok(())
-    }
-
     // Accepts a connection, if one waits. Where it can't be accepted, for want of descriptors or of
     // memory, it waits on.
     fn accept(&mut self) -> Option<PortEvent>
         ensures event { IfSome result (λ e. IsQuiet e) }
         ensures same { self.new.faults ≡ self.old.faults }
     {
-        let Some(listener) = &self.listener else {
-            self.can_accept = false;
-            return None;
-        };
-        let Ok(conn) = u32::try_from(self.opened) else {
+        let numbered = u32::try_from(self.opened);
+        let (Some(listener), Some(watch), Ok(conn)) = (&self.listener, &self.watch, numbered) else {
             self.can_accept = false;
             return None;
         };
@@ -267,7 +251,12 @@ impl<R: Net + rt::Files> SocketPorts<R> {
             return None;
         }
         match listener.accept() {
-            Ok(stream) => self.admit(conn, stream),
+            Ok(stream) => {
+                let link = Link::new(conn, stream, watch.poll.registry()).ok()?;
+                self.links.push(link).ok()?;
+                self.opened = self.opened.saturating_add(1);
+                Some(PortEvent::Opened(conn))
+            }
             Err(error) => {
                 match error.kind() {
                     io::ErrorKind::WouldBlock => self.can_accept = false,
@@ -286,30 +275,13 @@ impl<R: Net + rt::Files> SocketPorts<R> {
         self.crowded = true;
     }
 
-    fn admit(&mut self, conn: u32, stream: Stream) -> Option<PortEvent>
-        ensures event { IfSome result (λ e. IsQuiet e) }
-        ensures same { self.new.faults ≡ self.old.faults }
-    {
-        let Some(watch) = &self.watch else {
-            return None;
-        };
-        let Ok(link) = Link::new(conn, stream, watch.poll.registry()) else {
-            return None;
-        };
-        if self.links.push(link).is_err() {
-            return None;
-        }
-        self.opened = self.opened.saturating_add(1);
-        Some(PortEvent::Opened(conn))
-    }
-
     fn hear(&mut self, place: usize, room: &mut Vec<u8>) -> Option<PortEvent>
         requires { place < vec_len self.old.links }
         ensures event { IfSome result
             (λ e. IsPieceOf e room.new.items × EventCounts self.old.faults self.new.faults e) }
         ensures none { IfNone result (self.new.faults ≡ self.old.faults) }
     {
-        let conn = self.links[place].conn();
+        let conn = self.links[place].conn;
         if self.links[place].take_writable() {
             return Some(PortEvent::Writable(conn));
         }

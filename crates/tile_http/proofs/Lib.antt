@@ -1,3 +1,2 @@
 pub mod HeadTexts
 pub mod TargetTexts
-pub mod Puts

@@ -1,5 +1,5 @@
 //! What a connection's bytes ask for.
-ghost use Rattle.std.specs.Prelude.{◌≡◌, ◌≤◌, ◌↔◌, IsTrue, length, codes, IsUtf8};
+ghost use Rattle.std.specs.Prelude.{◌≡◌, ◌≤◌, length, IsUtf8};
 ghost use Rattle.farm_base.specs.Limits.{most_head_bytes};
 ghost use Rattle.tile_http.specs.Requests.{Reads, Targets};
 
@@ -41,7 +41,7 @@ fn request_of<'a>(method: &[u8], target: &'a [u8]) -> Request<'a>
     requires { IsUtf8 target.now }
     ensures { Targets method.now target.entry.now result }
 {
-    if !is_get(method) {
+    if method != b"GET".as_slice() {
         return Request::NotGet;
     }
     let Ok(text) = from_utf8(target) else {
@@ -51,10 +51,4 @@ fn request_of<'a>(method: &[u8], target: &'a [u8]) -> Request<'a>
         Some(target) => Request::Get(target),
         None => Request::NoTarget,
     }
-}
-
-fn is_get(method: &[u8]) -> bool
-    ensures { IsTrue result ↔ (method.now ≡ codes "GET") }
-{
-    method == b"GET".as_slice()
 }

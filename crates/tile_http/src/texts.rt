@@ -1,19 +1,12 @@
 //! The heads of answers.
-ghost use Rattle.std.specs.Prelude.{◌≡◌, ◌++◌, IfOk, OnOk};
+ghost use Rattle.std.specs.Prelude.{◌≡◌, ◌++◌, OnOk};
 ghost use Rattle.tile_http.specs.Answers as spec;
 
-use farm_base::{NoMemory, Text};
+use farm_base::NoMemory;
 use std::alloc::Global;
 
-/// Puts bytes behind what was said.
-pub(crate) fn put(response: &mut Vec<u8>, bytes: &[u8]) -> Result<(), NoMemory>
-    ensures { OnOk result (response.new.items ≡ response.old.items ++ bytes.now) }
-{
-    response.extend_from_slice(bytes)?;
-    Ok(())
-}
-
 // An answer of this status: its head, with more lines that may be none, and its body.
+#[tactic(auto, unfolding(crate::specs::Answers::response_head))]
 fn put_answer(
     alloc: Global,
     status: &str,
@@ -25,19 +18,13 @@ fn put_answer(
     ensures { OnOk result (response.new.items
         ≡ response.old.items ++ spec.answer status.now kind.now more.now body.now) }
 {
-    let head = head(alloc, status, kind, body.len(), more)?;
-    put(response, head.as_str().as_bytes())?;
-    put(response, body)
-}
-
-#[tactic(auto, unfolding(crate::specs::Answers::response_head))]
-fn head(alloc: Global, status: &str, kind: &str, len: usize, more: &str) -> Result<Text, NoMemory>
-    ensures { IfOk result (λ t. t ≡ spec.response_head status.now kind.now len more.now) }
-{
+    let len = body.len();
     let head = format!(in alloc;
         "HTTP/1.1 {status}\r\nContent-Type: {kind}\r\nContent-Length: {len}\r\n{more}Connection: close\r\n\r\n"
     )?;
-    Ok(Text::from_string(head))
+    response.extend_from_slice(head.as_str().as_bytes())?;
+    response.extend_from_slice(body)?;
+    Ok(())
 }
 
 /// An answer of this status, whose body is a text.
@@ -55,6 +42,7 @@ pub(crate) fn put_text(
 }
 
 /// An answer with a picture, `clean` or `dirty`, of a data version.
+#[tactic(auto, unfolding(crate::specs::Answers::tile_lines))]
 pub(crate) fn put_picture(
     alloc: Global,
     word: &str,
@@ -65,7 +53,7 @@ pub(crate) fn put_picture(
     ensures { OnOk result (response.new.items
         ≡ response.old.items ++ spec.picture_answer word.now version picture.now) }
 {
-    let lines = tile_lines(alloc, word, version)?;
+    let lines = format!(in alloc; "X-Tile: {word}\r\nX-Version: {version}\r\n")?;
     put_answer(
         alloc,
         "200 OK",
@@ -74,11 +62,4 @@ pub(crate) fn put_picture(
         picture,
         response,
     )
-}
-
-#[tactic(auto, unfolding(crate::specs::Answers::tile_lines))]
-fn tile_lines(alloc: Global, word: &str, version: u64) -> Result<Text, NoMemory>
-    ensures { IfOk result (λ t. t ≡ spec.tile_lines word.now version) }
-{
-    Ok(Text::from_string(format!(in alloc; "X-Tile: {word}\r\nX-Version: {version}\r\n")?))
 }

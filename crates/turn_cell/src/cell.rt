@@ -9,7 +9,7 @@ use crate::inner::{Core, Place};
 use crate::view::Terms;
 use farm_base::{NoMemory, Worn};
 use std::alloc::Global;
-use std::marker::Model;
+use std::marker::{Brand, Model};
 use std::snapshot::Snapshot;
 use std::sync::Wait;
 
@@ -96,7 +96,14 @@ impl<T: StandsFor> TurnCell<T> {
             (C.promise call answer) seat.old seat.new)
             (λ _. seat.new ≡ worn_out seat.old) }
     {
-        self.core.turn(rt, &mut seat.place, call)
+        let ticket = self.core.draw(rt, &mut seat.place)?;
+        let mut value = self.core.enter(rt, &mut seat.place, ticket);
+        let asked = Snapshot::of(&call);
+        let answer = call.run(&mut value);
+        self.core
+            .count::<Brand, C>(&mut seat.place, &asked, &answer);
+        self.core.leave(&mut seat.place, value);
+        Ok(answer)
     }
 
     /// A new seat, split from the first. Its number is the number of splits, this one included. No

@@ -2,7 +2,7 @@
 ghost use Rattle.std.specs.Prelude.{◌≡◌, ℕ, ◌+◌, ◌<◌, ◌≤◌, true, false, length, [], ◌∷◌, Some, None, IfOk, IfErr, MatchResult};
 ghost use Rattle.farm_base.specs.Limits.{most_turns};
 ghost use Rattle.turn_cell.specs.inner.Cell.{newcomer};
-ghost use Rattle.turn_cell.specs.SeatStates.{seat_state, Took, Closes, IsWhole, worn_out, joining};
+ghost use Rattle.turn_cell.specs.SeatStates.{seat_state, Closes, IsWhole};
 ghost use Rattle.turn_cell.specs.inner.Plays.{counting, leaving, split_first, split_new, joining_views, KnowsJoined, KnowsStrangers};
 ghost use Rattle.turn_cell.specs.Turns.{StartsWith};
 ghost use Rattle.turn_cell.specs.inner.Words.{IsIdle, KnowsAll, with_ticket, with_mark, Entered};
@@ -14,7 +14,6 @@ use atomic_table::{Refused, Table};
 use farm_base::Worn;
 use std::alloc::Global;
 use std::hint::spin_loop;
-use std::marker::Brand;
 use std::snapshot::Snapshot;
 use std::sync::Wait;
 use std::sync::atomic::{AtomicU64, Ordering};
@@ -91,7 +90,7 @@ impl<T: StandsFor> Core<T> {
     }
 
     // Draws the next ticket, or leaves the mark where the limit was drawn.
-    fn draw<R: Wait>(&self, rt: &R, place: &mut Place<T, T::Entry>) -> Result<u64, Worn>
+    pub(crate) fn draw<R: Wait>(&self, rt: &R, place: &mut Place<T, T::Entry>) -> Result<u64, Worn>
         requires place { (place.old.table_id ≡ self.now.table.shared.table_id)
             × (place.old.me.0.about ≡ Some self.now.table.shared.key) }
         requires idle { IsIdle place.old.me }
@@ -118,7 +117,7 @@ impl<T: StandsFor> Core<T> {
         unreachable!()
     }
 
-    fn enter<R: Wait>(&self, rt: &R, place: &mut Place<T, T::Entry>, ticket: u64) -> T
+    pub(crate) fn enter<R: Wait>(&self, rt: &R, place: &mut Place<T, T::Entry>, ticket: u64) -> T
         requires place { (place.old.table_id ≡ self.now.table.shared.table_id)
             × (place.old.me.0.about ≡ Some self.now.table.shared.key) }
         requires drawn { (place.old.me.0.tickets ≡ ticket ∷ [])
@@ -154,7 +153,7 @@ impl<T: StandsFor> Core<T> {
         self.sleepers.fetch_sub(1, Ordering::SeqCst);
     }
 
-    fn count<W: Said<T::Entry>, C: Call<T>>(
+    pub(crate) fn count<W: Said<T::Entry>, C: Call<T>>(
         &self,
         place: &mut Place<T, T::Entry>,
         _asked: &Snapshot<C>,
@@ -173,7 +172,7 @@ impl<T: StandsFor> Core<T> {
         self.table.shared.fetch_add::<Count<W>>(place, COUNT, 1);
     }
 
-    fn leave(&self, place: &mut Place<T, T::Entry>, value: T)
+    pub(crate) fn leave(&self, place: &mut Place<T, T::Entry>, value: T)
         requires place { (place.old.table_id ≡ self.now.table.shared.table_id)
             × (place.old.me.0.about ≡ Some self.now.table.shared.key) }
         requires holds { (place.old.me.0.holds ≡ true)
@@ -190,39 +189,6 @@ impl<T: StandsFor> Core<T> {
         if self.sleepers.load(Ordering::SeqCst) > 0 {
             self.table.shared.wake_all(SERVING);
         }
-    }
-
-    pub(crate) fn turn<R: Wait, C: Call<T>>(
-        &self,
-        rt: &R,
-        place: &mut Place<T, T::Entry>,
-        call: C,
-    ) -> Result<C::Answer, Worn>
-        requires place { (place.old.table_id ≡ self.now.table.shared.table_id)
-            × (place.old.me.0.about ≡ Some self.now.table.shared.key) }
-        requires settled { IsIdle place.old.me × KnowsAll place.old.me.0 }
-        requires need { C.need call place.old.me.0.number place.old.me.0.seen (T.lasting self.now.table.shared.key.first.value) }
-        ensures place { (place.new.table_id ≡ place.old.table_id)
-            × (place.new.id ≡ place.old.id)
-            × (place.new.me.0.about ≡ place.old.me.0.about)
-            × (place.new.me.0.number ≡ place.old.me.0.number)
-            × (place.new.me.0.first ≡ place.old.me.0.first)
-            × (place.new.me.0.splits ≡ place.old.me.0.splits)
-            × (place.new.me.0.joined ≡ place.old.me.0.joined) }
-        ensures settled { IsIdle place.new.me × KnowsAll place.new.me.0 }
-        ensures turn { MatchResult result
-            (λ answer. Took T.stands T.lasting self.now.table.shared.key (C.entry call answer)
-            (C.promise call answer) (seat_state place.old.table_id place.old.me.0)
-            (seat_state place.new.table_id place.new.me.0))
-            (λ _. place.new.me ≡ with_mark place.old.me) }
-    {
-        let ticket = self.draw(rt, place)?;
-        let mut value = self.enter(rt, place, ticket);
-        let asked = Snapshot::of(&call);
-        let answer = call.run(&mut value);
-        self.count::<Brand, C>(place, &asked, &answer);
-        self.leave(place, value);
-        Ok(answer)
     }
 
     pub(crate) fn split(&self, first: &mut Place<T, T::Entry>) -> Place<T, T::Entry>

@@ -1,10 +1,12 @@
-use Rattle.std.proofs.Common.{◌≡◌, ◌++◌, length, rules}
+use Rattle.std.proofs.Common.{◌≡◌, ℕ, List, ◌++◌, length, ap, ◌∙◌, append_assoc, rules}
 use Rattle.tile_http.specs.Answers as spec
-use Rattle.tile_http.proofs.Puts.{put_twice}
 use Rattle.tile_http.proofs.texts.put_answer.Goals as goal
 
 pub returns : goal.returns
+unfolding spec.response_head
 returns c =
+    let old = c.args.response.now.items in
     let head = spec.response_head c.args.status.now c.args.kind.now (length c.args.body.now) c.args.more.now in
-    let first : c.put.new.response.items ≡ c.args.response.now.items ++ head = search rules in
-    put_twice c.put-2.result c.args.response.now.items c.put.new.response.items c.put-2.new.response.items head c.args.body.now first c.put-2.ensures
+    let first : c.extend_from_slice.new.self.items ≡ old ++ head = search rules in
+    let second : c.extend_from_slice-2.new.self.items ≡ c.extend_from_slice.new.self.items ++ c.args.body.now = search rules in
+    second ∙ ap (λ (l : List ℕ). l ++ c.args.body.now) first ∙ append_assoc old head c.args.body.now

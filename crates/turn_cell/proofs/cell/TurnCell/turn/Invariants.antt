@@ -1,5 +1,5 @@
 use Rattle.std.proofs.Common.{Some}
-use Rattle.turn_cell.proofs.inner.Core.turn.Given as goal
+use Rattle.turn_cell.proofs.cell.TurnCell.turn.Given as goal
 
 -- the entry of the call and its answer
 abbrev pub ghosts-count : goal.ghosts-count
