@@ -14,54 +14,65 @@ pub(crate) enum Bench {
 }
 
 /// Whether rates are asked for too.
-#[derive(Clone, Copy, PartialEq, Eq)]
+#[derive(Clone, Copy)]
 pub(crate) enum Work {
     Counts,
     Rates,
 }
 
-/// The address behind the word `serve`, if these are the words.
-pub(crate) fn read_address<R: Env + Alloc<A = Global>>(rt: &R) -> io::Result<Option<String>> {
-    let mut words = env::args(rt)?.skip(1);
-    let (first, second) = (words.next(), words.next());
-    Ok(match first {
-        Some(word) if word.as_str() == "serve" => second,
-        _ => None,
-    })
-}
-
-/// Without words all are asked for; else the first word is one of them, and the word `rates` may follow.
-pub(crate) fn read_words(rt: &(impl Env + Alloc)) -> io::Result<Option<(Bench, Work)>> {
-    let mut words = env::args(rt)?;
-    let _program = words.next();
-    let Some(first) = words.next() else {
-        return Ok(Some((Bench::All, Work::Counts)));
-    };
-    let work = match words.next() {
-        None => Some(Work::Counts),
-        Some(second) => rates(second.as_str()),
-    };
-    let is_last = words.next().is_none();
-    let (Some(bench), Some(work)) = (bench_named(first.as_str()), work) else {
-        return Ok(None);
-    };
-    Ok(if is_last { Some((bench, work)) } else { None })
-}
-
-fn bench_named(word: &str) -> Option<Bench> {
-    match word {
-        "filters" => Some(Bench::Filters),
-        "turns" => Some(Bench::Turns),
-        "tables" => Some(Bench::Tables),
-        "ports" => Some(Bench::Ports),
-        _ => None,
+impl Work {
+    /// Whether rates are asked for.
+    pub(crate) fn has_rates(self) -> bool {
+        matches!(self, Work::Rates)
     }
 }
 
-fn rates(word: &str) -> Option<Work> {
-    if word == "rates" {
-        Some(Work::Rates)
+/// An address to be served at, or the lines of a benchmark.
+#[derive(Clone, Copy)]
+pub(crate) enum Asked<'a> {
+    Serve(&'a str),
+    Lines(Bench, Work),
+}
+
+/// The words behind the program's name.
+pub(crate) fn words_of<R: Env + Alloc<A = Global>>(rt: &R) -> io::Result<Vec<String>> {
+    let mut words = Vec::new(rt.alloc());
+    for word in env::args(rt)?.skip(1) {
+        words.push(word)?;
+    }
+    Ok(words)
+}
+
+/// Without words all benchmarks are asked for; else the first word is one of them, and the word `rates` may follow, or it
+/// is `serve`, and an address follows.
+pub(crate) fn read_words(words: &[String]) -> Option<Asked<'_>> {
+    match words {
+        [] => Some(Asked::Lines(Bench::All, Work::Counts)),
+        [first] => lines_of(first.as_str(), Work::Counts),
+        [first, second, rest @ ..] => behind(first.as_str(), second.as_str(), rest.is_empty()),
+    }
+}
+
+fn behind<'a>(first: &str, second: &'a str, is_last: bool) -> Option<Asked<'a>> {
+    if first == "serve" {
+        Some(Asked::Serve(second))
+    } else if second == "rates" && is_last {
+        lines_of(first, Work::Rates)
     } else {
         None
     }
+}
+
+fn lines_of<'a>(word: &str, work: Work) -> Option<Asked<'a>> {
+    for (name, bench) in [
+        ("filters", Bench::Filters),
+        ("turns", Bench::Turns),
+        ("tables", Bench::Tables),
+        ("ports", Bench::Ports),
+    ] {
+        if word == name {
+            return Some(Asked::Lines(bench, work));
+        }
+    }
+    None
 }

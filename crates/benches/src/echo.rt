@@ -1,6 +1,6 @@
 //! A server that echoes what it hears, or gives one large answer.
 use crate::clients::PERIOD;
-use port_events::{Outbox, PortEvent, Ports};
+use port_events::{Outbox, PortEvent, PortFault, Ports};
 use socket_ports::SocketPorts;
 use std::alloc::Global;
 use std::net::Net;
@@ -33,23 +33,38 @@ impl Heard {
 
 /// What is served beside its clients.
 pub trait Server {
+    /// Listens at the address from now on.
+    fn listen(&mut self, address: &str) -> Result<(), PortFault>;
+
+    /// What its ports hear next, with the bytes of a piece in `room`.
+    fn hear(&mut self, room: &mut Vec<u8>) -> PortEvent;
+
+    /// Has this front of the long text for large answers.
+    fn keep(&mut self, part: Vec<u8>);
+
+    /// From now on the answer is one of so many bytes of the long text; an answer of none is an echo.
+    fn begin_answer(&mut self, large: u64);
+
     /// Serves until a bell is rung and every connection has gone: false where the ports broke or memory
     /// was wanting.
     fn serve(&mut self) -> bool;
+
+    /// What was heard since it began to serve.
+    fn heard(&self) -> Heard;
 }
 
 /// A server's ports, the echoes that were not taken yet, and how much is left of one large answer.
 #[derive(Drop)]
 pub struct Echo<R> {
     alloc: Global,
-    pub ports: SocketPorts<R>,
-    pub heard: Heard,
-    /// How much is left of the large answer, which is a long text; a server that has none echoes.
-    pub large: u64,
-    /// How much of it was taken.
-    pub taken: u64,
-    /// The front of that text.
-    pub part: Vec<u8>,
+    ports: SocketPorts<R>,
+    heard: Heard,
+    // how much is left of the large answer, which is a long text; a server that has none echoes
+    large: u64,
+    // how much of it was taken
+    taken: u64,
+    // the front of that text
+    part: Vec<u8>,
     outbox: Outbox,
 }
 
@@ -141,6 +156,23 @@ impl<R: Net + Files> Echo<R> {
 }
 
 impl<R: Net + Files> Server for Echo<R> {
+    fn listen(&mut self, address: &str) -> Result<(), PortFault> {
+        self.ports.listen(address)
+    }
+
+    fn hear(&mut self, room: &mut Vec<u8>) -> PortEvent {
+        self.ports.next(room)
+    }
+
+    fn keep(&mut self, part: Vec<u8>) {
+        self.part = part;
+    }
+
+    fn begin_answer(&mut self, large: u64) {
+        self.large = large;
+        self.taken = 0;
+    }
+
     fn serve(&mut self) -> bool {
         self.heard = Heard::NOTHING;
         let mut room = Vec::new(self.alloc);
@@ -154,5 +186,9 @@ impl<R: Net + Files> Server for Echo<R> {
             }
         }
         true
+    }
+
+    fn heard(&self) -> Heard {
+        self.heard
     }
 }

@@ -82,7 +82,7 @@ fn report_writing<R: Clock + Print>(
 }
 
 fn report_rate<R: Print>(rt: &R, work: Work, bytes: usize, took: Duration) -> io::Result<()> {
-    if work == Work::Rates {
+    if work.has_rates() {
         let rate = rate_of(bytes, took);
         println!(rt; "{rate} bytes a second")?;
     }

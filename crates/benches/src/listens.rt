@@ -1,7 +1,8 @@
 //! Where ports listen and where they fail, and a bell that is rung while they wait.
+use crate::echo::Server;
 use farm_base::Bell;
-use port_events::{PortEvent, PortFault, Ports};
-use socket_ports::{SocketBell, SocketPorts};
+use port_events::{PortEvent, PortFault};
+use socket_ports::SocketBell;
 use std::alloc::Global;
 use std::net::{Net, TcpListener, TcpStream};
 use std::os::unix::net::UnixListener;
@@ -11,7 +12,7 @@ use std::time::{Duration, Instant};
 use std::{fs, io};
 
 /// Prints of each address whether it is listened at.
-pub(crate) fn show<R>(rt: &R, alloc: Global, ports: &mut SocketPorts<R>) -> io::Result<()>
+pub(crate) fn show<R, E: Server>(rt: &R, alloc: Global, ports: &mut E) -> io::Result<()>
 where
     R: Print + Files + Net<Listener = TcpListener, Stream = TcpStream>,
 {
@@ -28,10 +29,7 @@ where
     shown
 }
 
-fn show_each<R>(rt: &R, ports: &mut SocketPorts<R>, taken: &str) -> io::Result<()>
-where
-    R: Print + Files + Net<Listener = TcpListener, Stream = TcpStream>,
-{
+fn show_each<R: Print + Files, E: Server>(rt: &R, ports: &mut E, taken: &str) -> io::Result<()> {
     for (name, address) in [
         ("no address", ""),
         ("no kind", "127.0.0.1:80"),
@@ -52,7 +50,7 @@ where
     fs::remove_file(rt, "left.sock")
 }
 
-fn listen<R: Net + Files>(ports: &mut SocketPorts<R>, address: &str) -> &'static str {
+fn listen<E: Server>(ports: &mut E, address: &str) -> &'static str {
     match ports.listen(address) {
         Ok(()) => "listens",
         Err(PortFault::Failed) => "fails",
@@ -78,10 +76,10 @@ where
 
 /// Rings a bell while ports wait, again and again, and prints what they heard; where rates are asked
 /// for also how long it took at most.
-pub(crate) fn show_bell<R: Threads + Sync + Clock + Print, P: Ports>(
+pub(crate) fn show_bell<R: Threads + Sync + Clock + Print, E: Server>(
     rt: &R,
     alloc: Global,
-    ports: &mut P,
+    ports: &mut E,
     bell: &SocketBell,
     rates: bool,
 ) -> io::Result<()> {
@@ -109,11 +107,11 @@ fn ring<R: Clock>(rt: &R, bell: &SocketBell) -> io::Result<Instant> {
     rung
 }
 
-fn hear<R: Clock, P: Ports>(
+fn hear<R: Clock, E: Server>(
     rt: &R,
     alloc: Global,
-    ports: &mut P,
+    ports: &mut E,
 ) -> (PortEvent, io::Result<Instant>) {
-    let event = ports.next(&mut Vec::new(alloc));
+    let event = ports.hear(&mut Vec::new(alloc));
     (event, Instant::now(rt))
 }

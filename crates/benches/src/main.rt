@@ -19,8 +19,8 @@ mod turns;
 mod under_cell;
 mod under_mutex;
 
-use crate::asked::{Bench, Work, read_address, read_words};
-use crate::echo::Echo;
+use crate::asked::{Asked, Bench, Work, read_words, words_of};
+use crate::echo::{Echo, Server};
 use crate::filters::filter_lines;
 use crate::ports::{port_lines, serve_at};
 use crate::tables::table_lines;
@@ -35,40 +35,49 @@ use std::sync::Wait;
 use std::thread::Threads;
 
 fn main(rt: HostRuntime) -> io::Result<ExitCode> {
+    let words = words_of(&rt)?;
     let (ports, bell) = SocketPorts::new(rt.alloc(), rt)?;
     let mut echo = Echo::new(rt.alloc(), ports);
-    let told = tell(&rt, &mut echo, &bell);
+    let told = tell(&rt, read_words(words.as_slice()), &mut echo, &bell);
     drop(echo);
     drop(bell);
+    drop(words);
     Ok(ExitCode::from(told?))
 }
 
-fn tell<R>(rt: &R, echo: &mut Echo<R>, bell: &SocketBell) -> io::Result<u8>
+fn tell<R, E: Server>(
+    rt: &R,
+    asked: Option<Asked<'_>>,
+    echo: &mut E,
+    bell: &SocketBell,
+) -> io::Result<u8>
 where
     R: Env + Alloc<A = Global> + Threads + Wait + Sync + Clock + Print + Eprint + Files,
     R: Net<Listener = TcpListener, Stream = TcpStream>,
 {
-    if let Some(address) = read_address(rt)? {
-        return Ok(u8::from(!serve_at(echo, address.as_str())));
+    match asked {
+        Some(Asked::Serve(address)) => Ok(u8::from(!serve_at(echo, address))),
+        Some(Asked::Lines(bench, work)) => {
+            if lines(rt, rt.alloc(), bench, work, echo, bell)? {
+                return Ok(0);
+            }
+            eprintln!(rt; "no memory, or the ports failed")?;
+            Ok(1)
+        }
+        None => {
+            eprintln!(rt; "usage: benches [filters|turns|tables|ports [rates] | serve ADDRESS]")?;
+            Ok(2)
+        }
     }
-    let Some((bench, work)) = read_words(rt)? else {
-        eprintln!(rt; "usage: benches [filters|turns|tables|ports [rates] | serve ADDRESS]")?;
-        return Ok(2);
-    };
-    if lines(rt, rt.alloc(), bench, work, echo, bell)? {
-        return Ok(0);
-    }
-    eprintln!(rt; "no memory, or the ports failed")?;
-    Ok(1)
 }
 
 // The lines of one benchmark, or of all: false where memory was wanting or the ports failed.
-fn lines<R>(
+fn lines<R, E: Server>(
     rt: &R,
     alloc: Global,
     bench: Bench,
     work: Work,
-    echo: &mut Echo<R>,
+    echo: &mut E,
     bell: &SocketBell,
 ) -> io::Result<bool>
 where

@@ -1,9 +1,8 @@
 //! Echoes over sockets, with clients in threads beside the ports.
 use crate::asked::Work;
-use crate::echo::{Echo, Server};
+use crate::echo::Server;
 use crate::runs::Kind;
 use crate::{listens, runs};
-use port_events::Ports;
 use socket_ports::SocketBell;
 use std::alloc::Global;
 use std::io;
@@ -13,22 +12,22 @@ use std::thread::Threads;
 
 /// At which addresses ports listen, and what clients and ports heard: false where the ports failed. For rates a hundred
 /// times as much is sent.
-pub(crate) fn port_lines<R>(
+pub(crate) fn port_lines<R, E: Server>(
     rt: &R,
     alloc: Global,
     work: Work,
-    echo: &mut Echo<R>,
+    echo: &mut E,
     bell: &SocketBell,
 ) -> io::Result<bool>
 where
     R: Threads + Sync + Clock + Print + Files,
     R: Net<Listener = TcpListener, Stream = TcpStream>,
 {
-    let rates = work == Work::Rates;
+    let rates = work.has_rates();
     // a bell is heard from the first listen on, also where it fails
-    drop(echo.ports.listen(""));
-    listens::show_bell(rt, alloc, &mut echo.ports, bell, rates)?;
-    listens::show(rt, alloc, &mut echo.ports)?;
+    drop(echo.listen(""));
+    listens::show_bell(rt, alloc, echo, bell, rates)?;
+    listens::show(rt, alloc, echo)?;
     Ok(
         runs::show_all(rt, alloc, echo, bell, Kind::Tcp, rates)?
             && runs::show_all(rt, alloc, echo, bell, Kind::Unix, rates)?,
@@ -36,6 +35,6 @@ where
 }
 
 /// Echoes what the clients of another program send to the address, until it is stopped: false where the ports failed.
-pub(crate) fn serve_at<R: Net + Files>(echo: &mut Echo<R>, address: &str) -> bool {
-    echo.ports.listen(address).is_ok() && echo.serve()
+pub(crate) fn serve_at<E: Server>(echo: &mut E, address: &str) -> bool {
+    echo.listen(address).is_ok() && echo.serve()
 }

@@ -1,11 +1,10 @@
 //! Runs: clients at a free address of the server, and what both of them saw.
 use crate::clients::{Client, Task, long_text, visit};
-use crate::echo::{Echo, Server};
+use crate::echo::{Heard, Server};
 use crate::listens::show_elsewhere;
 use farm_base::Bell;
-use port_events::Ports;
-use socket_ports::{SocketBell, SocketPorts};
-use std::alloc::Global;
+use socket_ports::SocketBell;
+use std::alloc::{AllocError, Global};
 use std::net::{Net, TcpListener, TcpStream};
 use std::os::unix::net::UnixStream;
 use std::rt::{Clock, Files};
@@ -17,7 +16,7 @@ use std::{fs, io};
 const PART: usize = 1 << 18;
 
 /// The kind of the sockets.
-#[derive(Clone, Copy, PartialEq, Eq)]
+#[derive(Clone, Copy)]
 pub enum Kind {
     Tcp,
     Unix,
@@ -33,10 +32,10 @@ impl Kind {
 }
 
 /// Shows what clients do, one thing after another, over sockets of one kind: false where the ports fail.
-pub(crate) fn show_all<R>(
+pub(crate) fn show_all<R, E: Server>(
     rt: &R,
     alloc: Global,
-    echo: &mut Echo<R>,
+    echo: &mut E,
     bell: &SocketBell,
     kind: Kind,
     rates: bool,
@@ -45,42 +44,43 @@ where
     R: Threads + Clock + Print + Files,
     R: Net<Listener = TcpListener, Stream = TcpStream>,
 {
-    let Some(place) = listen_free(rt, alloc, &mut echo.ports, kind)? else {
+    let Some(place) = listen_free(rt, alloc, echo, kind)? else {
         return Ok(false);
     };
-    let address = Address {
+    let run = Run {
         kind,
         place: place.as_str(),
+        rates,
     };
-    let shown = show_at(rt, alloc, echo, bell, address, rates);
+    let shown = show_at(rt, alloc, echo, bell, run);
     drop(place);
     shown
 }
 
-/// Where clients call: the kind of their sockets, and the address.
+/// Where clients call: the kind of their sockets, and the address; and whether rates are told.
 #[derive(Clone, Copy)]
-struct Address<'a> {
+struct Run<'a> {
     kind: Kind,
     place: &'a str,
+    rates: bool,
 }
 
-fn show_at<R>(
+fn show_at<R, E: Server>(
     rt: &R,
     alloc: Global,
-    echo: &mut Echo<R>,
+    echo: &mut E,
     bell: &SocketBell,
-    address: Address<'_>,
-    rates: bool,
+    run: Run<'_>,
 ) -> io::Result<bool>
 where
     R: Threads + Clock + Print + Files,
     R: Net<Listener = TcpListener, Stream = TcpStream>,
 {
-    let many = if rates { 100u32 } else { 1 };
-    if address.kind == Kind::Tcp {
-        show_elsewhere(rt, alloc, address.place)?;
+    let many = if run.rates { 100u32 } else { 1 };
+    if matches!(run.kind, Kind::Tcp) {
+        show_elsewhere(rt, alloc, run.place)?;
     }
-    echo.part = long_text(alloc, PART)?;
+    echo.keep(long_text(alloc, PART)?);
     for (name, task) in [
         ("one connection", Task::Echoes(1, many.saturating_mul(1000))),
         (
@@ -94,60 +94,58 @@ where
         ("one that ends its sending", Task::Half(10_000)),
         ("one that closes with bytes unread", Task::Reset),
     ] {
-        let kind_name = address.kind.name();
+        let kind_name = run.kind.name();
         print!(rt; "{kind_name}, {name}")?;
-        if !show_task(rt, alloc, echo, bell, address, task, rates)? {
+        if !show_task(rt, alloc, echo, bell, run, task)? {
             return Ok(false);
         }
     }
-    if address.kind == Kind::Unix {
-        fs::remove_file(rt, address.place)?;
+    if matches!(run.kind, Kind::Unix) {
+        fs::remove_file(rt, run.place)?;
     }
     Ok(true)
 }
 
-fn show_task<R>(
+fn show_task<R, E: Server>(
     rt: &R,
     alloc: Global,
-    echo: &mut Echo<R>,
+    echo: &mut E,
     bell: &SocketBell,
-    address: Address<'_>,
+    run: Run<'_>,
     task: Task,
-    rates: bool,
 ) -> io::Result<bool>
 where
     R: Threads + Clock + Print + Files,
     R: Net<Listener = TcpListener, Stream = TcpStream>,
 {
     let start = Instant::now(rt)?;
-    echo.large = task.large();
-    echo.taken = 0;
-    let (served, came) = call(rt, alloc, echo, bell, address, task)?;
+    echo.begin_answer(task.large());
+    let (served, came) = call(rt, alloc, echo, bell, run, task)?;
     let took = start.elapsed(rt)?;
-    show(rt, echo, came, took, rates)?;
+    show(rt, echo.heard(), came, took, run.rates)?;
     Ok(served)
 }
 
 // Connects the clients of a task and serves them: whether that went in order, and what came to them.
-fn call<R>(
+fn call<R, E: Server>(
     rt: &R,
     alloc: Global,
-    echo: &mut Echo<R>,
+    echo: &mut E,
     bell: &SocketBell,
-    address: Address<'_>,
+    run: Run<'_>,
     task: Task,
 ) -> io::Result<(bool, u64)>
 where
-    R: Threads + Clock + Print + Files,
+    R: Threads + Files,
     R: Net<Listener = TcpListener, Stream = TcpStream>,
 {
-    match address.kind {
+    match run.kind {
         Kind::Tcp => {
-            let streams = connect_tcp(rt, alloc, address.place, task)?;
+            let streams = connect_tcp(rt, alloc, run.place, task)?;
             serve(rt, alloc, echo, bell, streams, task)
         }
         Kind::Unix => {
-            let streams = connect_unix(rt, alloc, address.place, task)?;
+            let streams = connect_unix(rt, alloc, run.place, task)?;
             serve(rt, alloc, echo, bell, streams, task)
         }
     }
@@ -155,55 +153,72 @@ where
 
 // Prints what came to the clients and what the server heard, and where rates are asked for how much came
 // a second.
-fn show<R: Print>(
-    rt: &R,
-    echo: &Echo<R>,
-    came: u64,
-    took: Duration,
-    rates: bool,
-) -> io::Result<()> {
-    let heard = echo.heard;
+fn show<R: Print>(rt: &R, heard: Heard, came: u64, took: Duration, rates: bool) -> io::Result<()> {
     for (name, number) in [
         ("came", came),
         ("opened", heard.opened),
         ("ended", heard.ended),
         ("lost", heard.lost),
         ("longest piece", heard.longest as u64),
-        ("a second", rate_of(came, took)),
     ] {
-        if rates || name != "a second" {
-            print!(rt; ", {name} {number}")?;
-        }
+        print!(rt; ", {name} {number}")?;
+    }
+    if rates {
+        let each = rate_of(came, took);
+        print!(rt; ", a second {each}")?;
     }
     println!(rt; "")
 }
 
 // Listens at an address of loopback at which nobody listens, and answers how clients call it.
-fn listen_free<R>(
+fn listen_free<R, E: Server>(
     rt: &R,
     alloc: Global,
-    ports: &mut SocketPorts<R>,
+    ports: &mut E,
     kind: Kind,
 ) -> io::Result<Option<String>>
 where
-    R: Files + Net<Listener = TcpListener, Stream = TcpStream>,
+    R: Net<Listener = TcpListener, Stream = TcpStream>,
 {
     // another program may be quicker to listen there
     for number in 0..8u32 {
-        let place = match kind {
-            Kind::Tcp => {
-                let port = TcpListener::bind(rt, "127.0.0.1:0")?.local_addr()?.port();
-                format!(in alloc; "127.0.0.1:{port}")?
-            }
-            Kind::Unix => format!(in alloc; "echo{number}.sock")?,
-        };
-        let kind_name = kind.name();
-        let address = format!(in alloc; "{kind_name}:{place}")?;
-        if ports.listen(address.as_str()).is_ok() {
+        let place = free_place(rt, alloc, kind, number)?;
+        if is_listened(alloc, ports, kind, place.as_str())? {
             return Ok(Some(place));
         }
     }
     Ok(None)
+}
+
+fn free_place<R>(rt: &R, alloc: Global, kind: Kind, number: u32) -> io::Result<String>
+where
+    R: Net<Listener = TcpListener, Stream = TcpStream>,
+{
+    match kind {
+        Kind::Tcp => {
+            let port = free_port(rt)?;
+            Ok(format!(in alloc; "127.0.0.1:{port}")?)
+        }
+        Kind::Unix => Ok(format!(in alloc; "echo{number}.sock")?),
+    }
+}
+
+fn free_port<R>(rt: &R) -> io::Result<u16>
+where
+    R: Net<Listener = TcpListener, Stream = TcpStream>,
+{
+    Ok(TcpListener::bind(rt, "127.0.0.1:0")?.local_addr()?.port())
+}
+
+fn is_listened<E: Server>(
+    alloc: Global,
+    ports: &mut E,
+    kind: Kind,
+    place: &str,
+) -> Result<bool, AllocError> {
+    let kind_name = kind.name();
+    let address = format!(in alloc; "{kind_name}:{place}")?;
+    Ok(ports.listen(address.as_str()).is_ok())
 }
 
 // Serves clients that are connected: whether that went in order, and what came to them.

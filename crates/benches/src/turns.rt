@@ -25,7 +25,7 @@ pub(crate) fn turn_lines<R: Threads + Wait + Sync + Clock + Print>(
 }
 
 /// Which lock the counter is under.
-#[derive(Clone, Copy, PartialEq, Eq)]
+#[derive(Clone, Copy)]
 enum Lock {
     Cell,
     Mutex,
