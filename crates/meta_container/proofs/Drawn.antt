@@ -1,24 +1,21 @@
 -- The drawings of a metatile's tiles: how many, how long, and which stands at a tile's place.
-use Rattle.std.proofs.Common.{◌≡◌, ℕ, ◌+◌, ◌*◌, ◌/◌, ◌%◌, ◌<◌, ◌≤◌, true, ◌&&◌, List, [], ◌∷◌, ◌++◌, length, get_or, map, flat_map, Ok, refl, sym, ap, subst, ◌∙◌, arith, length-append}
-use Rattle.std.specs.Prelude.{codes}
+use Rattle.std.proofs.Common.{◌≡◌, ℕ, ◌+◌, ◌*◌, ◌/◌, ◌%◌, ◌<◌, ◌≤◌, true, ◌&&◌, List, [], ◌∷◌, length, get_or, map, Ok, refl, sym, ap, subst, ◌∙◌, arith}
 use Rattle.std.specs.List.{list_all}
-use Rattle.std.specs.Fmt.{decimal}
 use Rattle.std.proofs.Math.Nat.{mul-le-mul_right, mul-le-mul}
 use Rattle.std.proofs.lemmas.Bool.{lt-ltb, eq-eqb}
-use Rattle.std.proofs.lemmas.Fmt.{length-decimal-le}
 use Rattle.std.proofs.lemmas.List.{length-map, get_or-map}
 use Rattle.std.proofs.lemmas.List.FromFn.{length-map-range_with_len, get_or-map-range_with_len}
 use Rattle.std.proofs.lemmas.List.Sums.{sum_by-cons}
-use Rattle.plain_shapes.specs.declared.colour.Colour.{Colour}
 use Rattle.plain_world.specs.declared.world.Meta.{Meta}
 use Rattle.plain_world.specs.declared.world.Tile.{Tile}
 use Rattle.plain_world.specs.World.{IsTile, meta_of, tiles_across, index_place, window_of, centres}
 use Rattle.plain_shapes.specs.Features.{Layer}
 use Rattle.plain_drawing.specs.Styles.{MapStyle}
-use Rattle.plain_shapes.specs.Ppm.{pixel_bytes, ppm}
 use Rattle.plain_drawing.specs.Drawing as drawing
+use Rattle.plain_drawing.specs.inner.PartTexts.{tile_bytes, most_tile_bytes}
 use Rattle.plain_drawing.specs.Metatiles.{tile_at, column_of, tiles_in, tiles_of}
 use Rattle.plain_shapes.proofs.Places.{length_pieces, get_or_pieces, length-centres}
+use Rattle.plain_drawing.proofs.TileTexts.{length_text, few_bytes}
 use Rattle.plain_world.proofs.Windows.{size_bounds}
 use Rattle.meta_container.specs.Container.{bytes_of, is_stored, rank}
 use Rattle.meta_container.specs.Heads.{all_of_size}
@@ -48,42 +45,14 @@ tile_of_numbers z x y = record { z = z; x = x; y = y }
 tile_is : (z x y w v : ℕ) → w ≡ x → v ≡ y → tile_of_numbers z w v ≡ tile_of_numbers z x y
 tile_is z x y w v e f = rw (e, f) refl
 
--- the bytes of a picture
-length_pixels : (pixels : List Colour) → length (flat_map pixel_bytes pixels) ≡ 3 * length pixels
-length_pixels [] = refl
-length_pixels (c ∷ cs) = let e = length_pixels cs in omega arith
-
--- the bytes of a head with these digits, and what follows it
-length_head : (digits rest : List ℕ) → length (codes "P6\n" ++ digits ++ codes " " ++ digits ++ codes "\n255\n" ++ rest) ≡ 9 + length digits + length digits + length rest
-length_head digits rest =
-    length-append (codes "P6\n" ++ digits ++ codes " " ++ digits ++ codes "\n255\n") rest
-    ∙ ap (λ n. n + length rest)
-    (length-append (codes "P6\n" ++ digits ++ codes " " ++ digits) (codes "\n255\n")
-    ∙ ap (λ n. n + 5)
-    (length-append (codes "P6\n" ++ digits ++ codes " ") digits
-    ∙ ap (λ n. n + length digits) (length-append (codes "P6\n" ++ digits) (codes " ") ∙ ap (λ n. n + 1) (length-append (codes "P6\n") digits))))
-    ∙ sum (length digits) (length rest)
-  where
-    sum : (d r : ℕ) → 3 + d + 1 + d + 5 + r ≡ 9 + d + d + r
-    sum d r = omega arith
-
-length_ppm : (size : ℕ) (pixels : List Colour) → size ≤ 512 → length pixels ≡ size * size → length (ppm size size pixels) ≤ 786447
-length_ppm size pixels few count =
-    let d : length (decimal size) ≤ 3 = length-decimal-le 3 size (omega arith) (omega arith) (omega arith) in
-    let p = length_pixels pixels in
-    let s : size * size ≤ 512 * 512 = mul-le-mul few few in
-    most (length (ppm size size pixels)) (length (decimal size)) (length (flat_map pixel_bytes pixels)) (length_head (decimal size) (flat_map pixel_bytes pixels)) d (omega (arith, p, count, s))
-  where
-    most : (n digits rest : ℕ) → n ≡ 9 + digits + digits + rest → digits ≤ 3 → rest ≤ 786432 → n ≤ 786447
-    most n digits rest e d r = omega arith
-
-length_drawn : (style : MapStyle) (size : ℕ) (t : Tile) (data_layers : List Layer) → size ≤ 512 → length (drawing.drawn_tile style size t data_layers) ≤ 786447
-length_drawn style size t data_layers few =
-    length_ppm size (map (drawing.colour_at style size t.z data_layers) (centres (window_of t size))) few
+-- the drawing of a tile is as long as its size says
+length_drawn : (style : MapStyle) (size : ℕ) (t : Tile) (data_layers : List Layer) → length (drawing.drawn_tile style size t data_layers) ≡ tile_bytes size
+length_drawn style size t data_layers =
+    length_text size (map (drawing.colour_at style size t.z data_layers) (centres (window_of t size)))
     (length-map (centres (window_of t size)) (drawing.colour_at style size t.z data_layers) ∙ length-centres (window_of t size))
 
 stored_drawn : (style : MapStyle) (size : ℕ) (t : Tile) (data_layers : List Layer) → is_stored (drawing.drawn_tile style size t data_layers) ≡ true
-stored_drawn style size t data_layers = lt-ltb 0 (length (drawing.drawn_tile style size t data_layers)) (omega arith)
+stored_drawn style size t data_layers = lt-ltb 0 (length (drawing.drawn_tile style size t data_layers)) (omega (arith, length_drawn style size t data_layers))
 
 -- drawings one after another
 all_stored : (style : MapStyle) (size : ℕ) (data_layers : List Layer) (ts : List Tile) → list_all is_stored (map (λ t. drawing.drawn_tile style size t data_layers) ts) ≡ true
@@ -93,30 +62,27 @@ all_stored style size data_layers (t ∷ ts) =
     ∙ all_stored style size data_layers ts
 
 -- the drawings of tiles have all the same size
-length_text : (size : ℕ) (pixels : List Colour) → length pixels ≡ size * size → length (ppm size size pixels) ≡ 9 + 2 * length (decimal size) + 3 * (size * size)
-length_text size pixels count = length_head (decimal size) (flat_map pixel_bytes pixels) ∙ omega (arith, length_pixels pixels, count)
-
-all_even : (style : MapStyle) (size n : ℕ) (data_layers : List Layer) (ts : List Tile) → n ≡ 9 + 2 * length (decimal size) + 3 * (size * size)
+all_even : (style : MapStyle) (size n : ℕ) (data_layers : List Layer) (ts : List Tile) → n ≡ tile_bytes size
     → all_of_size n (map (λ t. drawing.drawn_tile style size t data_layers) ts) ≡ true
 all_even style size n data_layers [] e = refl
 all_even style size n data_layers (t ∷ ts) e =
-    let pixels : List Colour = map (drawing.colour_at style size t.z data_layers) (centres (window_of t size)) in
-    let count = length-map (centres (window_of t size)) (drawing.colour_at style size t.z data_layers) ∙ length-centres (window_of t size) in
-    ap (λ b. b && all_of_size n (map (λ u. drawing.drawn_tile style size u data_layers) ts)) (eq-eqb (length (ppm size size pixels)) n (length_text size pixels count ∙ sym e))
+    ap (λ b. b && all_of_size n (map (λ u. drawing.drawn_tile style size u data_layers) ts))
+    (eq-eqb (length (drawing.drawn_tile style size t data_layers)) n (length_drawn style size t data_layers ∙ sym e))
     ∙ all_even style size n data_layers ts e
 
-pub drawn_of_size : (style : MapStyle) (size n : ℕ) (m : Meta) (data_layers : List Layer) → n ≡ 9 + 2 * length (decimal size) + 3 * (size * size)
+pub drawn_of_size : (style : MapStyle) (size n : ℕ) (m : Meta) (data_layers : List Layer) → n ≡ tile_bytes size
     → all_of_size n (tiles_of style size m data_layers) ≡ true
 drawn_of_size style size n m data_layers e = all_even style size n data_layers (tiles_in m) e
 
 all_short : (style : MapStyle) (size : ℕ) (data_layers : List Layer) (ts : List Tile) → size ≤ 512
-    → bytes_of (map (λ t. drawing.drawn_tile style size t data_layers) ts) ≤ length ts * 786447
+    → bytes_of (map (λ t. drawing.drawn_tile style size t data_layers) ts) ≤ length ts * most_tile_bytes
 all_short style size data_layers [] few = omega arith
 all_short style size data_layers (t ∷ ts) few =
-    let one = length_drawn style size t data_layers few in
+    let one = length_drawn style size t data_layers in
+    let most = few_bytes size few in
     let more = all_short style size data_layers ts few in
     let sum = sum_by-cons (λ (tile : List ℕ). length tile) (drawing.drawn_tile style size t data_layers) (map (λ u. drawing.drawn_tile style size u data_layers) ts) in
-    omega (arith, sum, one, more)
+    omega (arith, sum, one, most, more)
 
 pub drawn_are_tiles : DrawnAreTiles
 drawn_are_tiles style size m data_layers is size_is =

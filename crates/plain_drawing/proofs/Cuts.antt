@@ -14,8 +14,7 @@ use Rattle.plain_shapes.specs.Features.{Layer}
 use Rattle.plain_drawing.specs.Styles.{MapStyle}
 use Rattle.plain_shapes.specs.Images.{Pixels}
 use Rattle.plain_shapes.specs.inner.Canvas.{cut_rows, cut_of}
-use Rattle.plain_shapes.specs.Ppm.{ppm}
-use Rattle.plain_drawing.specs.Drawing.{colour_at, drawn_tile}
+use Rattle.plain_drawing.specs.Drawing.{colour_at, drawn_tile, pixels_text}
 use Rattle.plain_drawing.specs.Metatiles.{tile_at, column_of, tiles_of}
 use Rattle.plain_drawing.specs.inner.PartTexts.{part_text, column_texts, part_texts}
 use Rattle.plain_shapes.proofs.Places.{length-centres, get_or-centres}
@@ -118,13 +117,13 @@ tile_part m size col row e h k =
 pub tile_cut : (style : MapStyle) (size : ℕ) (m : Meta) (data_layers : List Layer) (w : Window) (col row : ℕ) (image : Pixels)
     → IsTileSize size → m.z ≤ 18 → col < tiles_across m → row < tiles_across m → w ≡ meta_window_of m size
     → image ≡ record { cols = w.cols; rows = w.rows; pixels = map (colour_at style size m.z data_layers) (centres w) }
-    → ppm size size (cut_of image (col * size) (row * size) size size).pixels ≡ drawn_tile style size (tile_at m col row) data_layers
+    → pixels_text size size (cut_of image (col * size) (row * size) size size).pixels ≡ drawn_tile style size (tile_at m col row) data_layers
 tile_cut style size m data_layers w col row image sized z h k window_is image_is =
     let f = colour_at style size m.z data_layers in
     let p = tile_part m size col row (whole_pixel size m.z sized z) h k in
-    ap (λ i. ppm size size (cut_of i (col * size) (row * size) size size).pixels) image_is
-    ∙ ap (λ v. ppm size size (cut_rows v.cols (col * size) (row * size) size size (map f (centres v)))) window_is
-    ∙ ap (ppm size size) (cut_map f (meta_window_of m size).cols (col * size) (row * size) size size (centres (meta_window_of m size))
+    ap (λ i. pixels_text size size (cut_of i (col * size) (row * size) size size).pixels) image_is
+    ∙ ap (λ v. pixels_text size size (cut_rows v.cols (col * size) (row * size) size size (map f (centres v)))) window_is
+    ∙ ap (pixels_text size size) (cut_map f (meta_window_of m size).cols (col * size) (row * size) size size (centres (meta_window_of m size))
     ∙ ap (map f) (centres_cut (window_of (tile_at m col row) size) (meta_window_of m size) (col * size) (row * size) p))
 
 -- functions that agree on a range make the same of it

@@ -11,9 +11,8 @@ use Rattle.plain_shapes.specs.Features.{Layer}
 use Rattle.plain_drawing.specs.Styles.{Style, LayerRef, MapStyle}
 use Rattle.plain_shapes.specs.Images.{Pixels}
 use Rattle.plain_shapes.specs.inner.Canvas.{at_centres, stepped}
-use Rattle.plain_drawing.specs.Rules.{item_symbolizers, is_active, denominator_of}
-use Rattle.plain_shapes.specs.Ppm.{ppm}
-use Rattle.plain_drawing.specs.Drawing.{drawn_tile, pixel_of, colour_at, Item, item_attrs, symbolizer_at, item_at, style_at, layer_at, items_of, style_named}
+use Rattle.plain_drawing.specs.Rules.{item_symbolizers, denominator_of}
+use Rattle.plain_drawing.specs.Drawing.{drawn_tile, pixels_text, pixel_of, colour_at, Item, item_attrs, symbolizer_at, item_at, style_at, layer_at, items_of, style_named, is_drawn}
 use Rattle.plain_shapes.proofs.Places.{length-centres}
 use Rattle.plain_drawing.specs.inner.Pictures.{with_symbolizer, with_item, with_style, with_layer, with_map}
 
@@ -82,7 +81,7 @@ layer_step : (w : Window) (denominator : ℕ) (style : MapStyle) (data_layers : 
 unfolding with_layer
 layer_step w denominator style data_layers image layer =
     let items : List Item = items_of style.grids data_layers layer.source in
-    step_if w (is_active layer.minimum_scale_denominator layer.maximum_scale_denominator denominator)
+    step_if w (is_drawn denominator layer)
     (λ c d. fold (style_at w.pixel denominator items c) d (flat_map (style_named style.styles) layer.styles)) image _
     (fold_stepped w (style_at w.pixel denominator items) (with_style w denominator items) (style_step w denominator items)
     (flat_map (style_named style.styles) layer.styles) image)
@@ -116,10 +115,10 @@ fresh_map w z size style data_layers e =
 -- the tile is the text of the picture of its window
 pub drawn_as_tile : (style : MapStyle) (size : ℕ) (t : Tile) (data_layers : List Layer) (w : Window) (scale : ℕ) (fresh item_symbolizers : Pixels) (bytes : List ℕ)
     → w ≡ window_of t size → scale ≡ denominator_of t.z size → fresh ≡ one_colour w style.background_color → item_symbolizers ≡ with_map w scale style data_layers fresh
-    → bytes ≡ ppm item_symbolizers.cols item_symbolizers.rows item_symbolizers.pixels → bytes ≡ drawn_tile style size t data_layers
+    → bytes ≡ pixels_text item_symbolizers.cols item_symbolizers.rows item_symbolizers.pixels → bytes ≡ drawn_tile style size t data_layers
 drawn_as_tile style size t data_layers w scale fresh item_symbolizers bytes window_is scale_is fresh_is drawn_is bytes_are =
     let picture : item_symbolizers ≡ record { cols = size; rows = size; pixels = map (colour_at style size t.z data_layers) (centres (window_of t size)) } =
     drawn_is ∙ ap (with_map w scale style data_layers) fresh_is ∙ ap (λ n. with_map w n style data_layers (one_colour w style.background_color)) scale_is
     ∙ ap (λ v. with_map v (denominator_of t.z size) style data_layers (one_colour v style.background_color)) window_is
     ∙ fresh_map (window_of t size) t.z size style data_layers refl in
-    bytes_are ∙ ap (λ p. ppm p.cols p.rows p.pixels) picture
+    bytes_are ∙ ap (λ p. pixels_text p.cols p.rows p.pixels) picture

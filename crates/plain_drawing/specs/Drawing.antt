@@ -1,6 +1,6 @@
 -- The plain drawing: the colour at a point, and the tile that has it at the centre of each pixel.
 -- Layers, styles and symbolizers are painted in Mapnik's painter order.
-use Rattle.std.specs.Prelude.{ℕ, ◌/◌, Bool, false, if◌then◌else◌, List, [], ◌∷◌, map, flat_map, fold, find, Option, option_map, option_to_list, unwrap_or}
+use Rattle.std.specs.Prelude.{ℕ, ◌/◌, Bool, false, if◌then◌else◌, List, [], ◌∷◌, map, flat_map, fold, find, option_map, option_to_list, unwrap_or}
 use Rattle.std.specs.Str.{bytes_eq}
 use Rattle.farm_base.specs.declared.Attr.{Attr}
 use Rattle.plain_world.specs.declared.world.Point.{Point}
@@ -91,10 +91,15 @@ items_of grids data_layers name =
 abbrev pub style_named : List Style → List ℕ → List Style
 style_named styles name = option_to_list (find (λ s. bytes_eq s.name name) styles)
 
--- after one layer of the map: each style that it names, if the layer is at scale
+-- the layer is at scale
+abbrev pub is_drawn : ℕ → LayerRef → Bool
+is_drawn denominator layer =
+    is_active layer.minimum_scale_denominator layer.maximum_scale_denominator denominator
+
+-- after one layer of the map: each style that it names, if the layer is drawn
 abbrev pub layer_at : ℕ → ℕ → MapStyle → List Layer → Point → Colour → LayerRef → Colour
 layer_at pixel denominator style data_layers c d layer =
-    if is_active layer.minimum_scale_denominator layer.maximum_scale_denominator denominator
+    if is_drawn denominator layer
     then fold (style_at pixel denominator (items_of style.grids data_layers layer.source) c) d
     (flat_map (style_named style.styles) layer.styles)
     else d
@@ -105,8 +110,12 @@ abbrev pub colour_at : MapStyle → ℕ → ℕ → List Layer → Point → Col
 colour_at style size z data_layers c = fold (layer_at (pixel_of z size) (denominator_of z size)
     style data_layers c) style.background_color style.layers
 
--- a tile: the PPM text of as many columns and rows as it has pixels, with the colour of the drawing
--- at each centre
+-- the format of tiles: so many columns and rows as a binary PPM text
+abbrev pub pixels_text : ℕ → ℕ → List Colour → List ℕ
+pixels_text = ppm
+
+-- a tile: the text of as many columns and rows as it has pixels, with the colour of the drawing at
+-- each centre
 abbrev pub drawn_tile : MapStyle → ℕ → Tile → List Layer → List ℕ
 drawn_tile style size t data_layers =
-    ppm size size (map (colour_at style size t.z data_layers) (centres (window_of t size)))
+    pixels_text size size (map (colour_at style size t.z data_layers) (centres (window_of t size)))

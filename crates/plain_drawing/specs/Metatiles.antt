@@ -1,5 +1,5 @@
 -- The tiles of a metatile, and their drawings.
-use Rattle.std.specs.Prelude.{ℕ, ◌+◌, ◌*◌, List, map, flat_map}
+use Rattle.std.specs.Prelude.{ℕ, ◌+◌, List, map, flat_map}
 use Rattle.std.specs.List.{range_with_len}
 use Rattle.plain_world.specs.declared.world.Tile.{Tile}
 use Rattle.plain_world.specs.declared.world.Meta.{Meta}

@@ -7,7 +7,7 @@ use Rattle.std.proofs.lemmas.List.FromFn.{fill_by_all}
 use Rattle.plain_drawing.proofs.Cuts.{map_range, flat_range}
 use Rattle.plain_shapes.specs.declared.colour.Colour.{Colour}
 use Rattle.plain_shapes.specs.Images.{Pixels}
-use Rattle.plain_shapes.specs.Ppm.{ppm}
+use Rattle.plain_drawing.specs.Drawing.{pixels_text}
 use Rattle.plain_shapes.specs.inner.Canvas.{cut_rows}
 use Rattle.plain_drawing.specs.inner.PartTexts.{part_text, column_texts, part_texts}
 use Rattle.tiled_image.specs.inner.Tiles.{Texts, IsTiled, joined}
@@ -140,23 +140,23 @@ image_of s a tiles = record { cols = s * a; rows = s * a; pixels = joined s a ti
 
 -- the texts of its parts are those of its tiles
 pub texts_joined : (s a : ℕ) (tiles : List (List Colour)) → AreTiles s a tiles
-    → flat_map (λ text. text) (part_texts (image_of s a tiles) s a) ≡ flat_map (ppm s s) tiles
+    → flat_map (λ text. text) (part_texts (image_of s a tiles) s a) ≡ flat_map (pixels_text s s) tiles
 texts_joined s a tiles are =
     let image : Pixels = image_of s a tiles in
-    let g = λ (k : ℕ). ppm s s (get_or tiles k []) in
+    let g = λ (k : ℕ). pixels_text s s (get_or tiles k []) in
     let z : 0 * a ≡ 0 = omega arith in
     let each : part_texts image s a ≡ flat_map (λ j. map (λ k. g (j * a + k)) (range_with_len 0 a)) (range_with_len 0 a) =
     flat_range (column_texts image s a) (λ j. map (λ k. g (j * a + k)) (range_with_len 0 a)) 0 a
     (λ x h. map_range (λ y. part_text image s x y) (λ k. g (x * a + k)) 0 a
-    (λ y k. ap (ppm s s) (tile_cut s a x y tiles are (omega (arith, h)) (omega (arith, k))))) in
-    let all : map (ppm s s) tiles ≡ map g (range_with_len 0 (a * a)) =
-    fill_by_all g (map (ppm s s) tiles) (a * a) [] (length-map tiles (ppm s s) ∙ are.count) (λ k h. get_or-map (ppm s s) tiles k [] [] (omega (arith, h, are.count))) in
+    (λ y k. ap (pixels_text s s) (tile_cut s a x y tiles are (omega (arith, h)) (omega (arith, k))))) in
+    let all : map (pixels_text s s) tiles ≡ map g (range_with_len 0 (a * a)) =
+    fill_by_all g (map (pixels_text s s) tiles) (a * a) [] (length-map tiles (pixels_text s s) ∙ are.count) (λ k h. get_or-map (pixels_text s s) tiles k [] [] (omega (arith, h, are.count))) in
     ap (λ ts. flat_map (λ text. text) ts) (each ∙ groups g a 0 a ∙ ap (λ k. map g (range_with_len k (a * a))) z ∙ sym all)
-    ∙ laid (ppm s s) tiles
+    ∙ laid (pixels_text s s) tiles
 
 -- the same where the tiles are those of a size and so many side by side
 pub part_texts_are : (shift a : ℕ) (t : Texts) (image : Pixels) (size across : ℕ) → IsTiled shift a t → image_of t.side a t.tiles ≡ image → t.side ≡ size → a ≡ across
-    → flat_map (ppm t.side t.side) t.tiles ≡ flat_map (λ text. text) (part_texts image size across)
+    → flat_map (pixels_text t.side t.side) t.tiles ≡ flat_map (λ text. text) (part_texts image size across)
 part_texts_are shift a t image size across is view side many =
     sym (texts_joined t.side a t.tiles (are_tiles shift a t is))
     ∙ ap (λ i. flat_map (λ text. text) (part_texts i t.side a)) view

@@ -2,7 +2,8 @@
 ghost use Rattle.std.specs.Prelude.{◌≡◌, ℕ, ◌+◌, ◌-◌, ◌*◌, ◌^◌, ◌≤◌, ◌<◌, ◌++◌, List, [], length, take, drop, map, flat_map, replicate, slice_get, slice_set, slice_index_or, Some, IfOk, OnOk, string_bytes};
 ghost use Rattle.plain_shapes.specs.declared.colour.Colour.{Colour};
 ghost use Rattle.plain_shapes.specs.Blending.{blend};
-ghost use Rattle.plain_shapes.specs.Ppm.{pixel_bytes, ppm};
+ghost use Rattle.plain_shapes.specs.Ppm.{pixel_bytes};
+ghost use Rattle.plain_drawing.specs.Drawing.{pixels_text};
 ghost use Rattle.plain_image.specs.PpmText.{colours};
 ghost use Rattle.plain_image.specs.Runs.{run_changed};
 ghost use Rattle.plain_world.specs.Limits.{most_side};
@@ -60,8 +61,8 @@ struct Blank {
 
 fn blank_of(alloc: Global, side: u32, c: Colour) -> Result<Blank, NoMemory>
     requires { IsTileSize side }
-    ensures head { IfOk result (λ b. string_bytes b.head ≡ ppm side side []) }
-    ensures text { IfOk result (λ b. text_of b ≡ ppm side side (replicate (side * side) c)) }
+    ensures head { IfOk result (λ b. string_bytes b.head ≡ pixels_text side side []) }
+    ensures text { IfOk result (λ b. text_of b ≡ pixels_text side side (replicate (side * side) c)) }
 {
     let head = text_head(alloc, side, side)?;
     let rows = Image::new(alloc, side, ROWS, c)?.into_bytes();
@@ -224,7 +225,7 @@ impl TileTexts {
     /// All its bytes, with these in the place of those before the texts.
     pub(crate) fn into_bytes(self, front: &[u8]) -> Vec<u8>
         requires { length front.now ≡ self.before }
-        ensures { result.items ≡ front.now ++ flat_map (ppm self.side self.side) self.tiles }
+        ensures { result.items ≡ front.now ++ flat_map (pixels_text self.side self.side) self.tiles }
     {
         let mut bytes = self.bytes;
         put_front(&mut bytes, front);

@@ -1,7 +1,7 @@
 //! A square image that is kept as the texts of its tiles.
 ghost use Rattle.std.specs.Prelude.{◌≡◌, ◌+◌, ◌*◌, ◌/◌, ◌%◌, ◌^◌, ◌≤◌, ◌<◌, [], IfOk, string_bytes};
 ghost use Rattle.plain_world.specs.World.{IsTileSize};
-ghost use Rattle.plain_shapes.specs.Ppm.{ppm};
+ghost use Rattle.plain_drawing.specs.Drawing.{pixels_text};
 
 use crate::tile_texts::TileTexts;
 use farm_base::NoMemory;
@@ -90,7 +90,8 @@ impl TiledImage {
     ghost use Rattle.plain_shapes.specs.Blending.{blend};
     ghost use Rattle.plain_shapes.specs.Images.{IsRaster};
     ghost use Rattle.plain_shapes.specs.inner.Canvas.{cut_of, cut_rows};
-    ghost use Rattle.plain_shapes.specs.Ppm.{ppm, pixel_bytes};
+    ghost use Rattle.plain_shapes.specs.Ppm.{pixel_bytes};
+    ghost use Rattle.plain_drawing.specs.Drawing.{pixels_text};
     ghost use Rattle.plain_drawing.specs.inner.PartTexts.{part_texts};
     ghost use Rattle.plain_image.specs.Runs.{run_changed};
 
@@ -201,7 +202,7 @@ impl TiledImage {
         requires in_cols { col + cols ≤ self.now.cols }
         requires in_rows { row + rows ≤ self.now.rows }
         ensures { OnOk result (out.new.items
-            ≡ out.old.items ++ ppm cols rows (cut_of self.now col row cols rows).pixels) }
+            ≡ out.old.items ++ pixels_text cols rows (cut_of self.now col row cols rows).pixels) }
     {
         // Opened, so that its rows are known to be few.
         let _tiles = &self.texts;

@@ -7,8 +7,8 @@ use Rattle.plain_shapes.specs.Features.{Layer}
 use Rattle.plain_drawing.specs.Styles.{Style, LayerRef, MapStyle}
 use Rattle.plain_shapes.specs.Images.{Pixels}
 use Rattle.plain_shapes.specs.inner.Canvas.{stepped}
-use Rattle.plain_drawing.specs.Rules.{item_symbolizers, is_active}
-use Rattle.plain_drawing.specs.Drawing.{Item, item_attrs, symbolizer_at, items_of, style_named}
+use Rattle.plain_drawing.specs.Rules.{item_symbolizers}
+use Rattle.plain_drawing.specs.Drawing.{Item, item_attrs, symbolizer_at, items_of, style_named, is_drawn}
 
 -- the picture after one symbolizer on an item
 unfoldable pub with_symbolizer : Window → Item → Pixels → Symbolizer → Pixels
@@ -26,7 +26,7 @@ with_style w denominator items image style = fold (with_item w denominator style
 -- after a layer
 unfoldable pub with_layer : Window → ℕ → MapStyle → List Layer → Pixels → LayerRef → Pixels
 with_layer w denominator style data_layers image layer =
-    if is_active layer.minimum_scale_denominator layer.maximum_scale_denominator denominator
+    if is_drawn denominator layer
     then fold (with_style w denominator (items_of style.grids data_layers layer.source)) image
     (flat_map (style_named style.styles) layer.styles)
     else image

@@ -1,7 +1,7 @@
 -- Tiles as their texts, one behind another.
 use Rattle.std.specs.Prelude.{◌≡◌, ℕ, zero, suc, ◌+◌, ◌*◌, ◌^◌, ◌≤◌, List, [], ◌∷◌, length, take, drop, flat_map}
 use Rattle.plain_shapes.specs.declared.colour.Colour.{Colour}
-use Rattle.plain_shapes.specs.Ppm.{ppm}
+use Rattle.plain_drawing.specs.Drawing.{pixels_text}
 use Rattle.plain_image.specs.PpmText.{colours}
 
 -- the tiles of so many texts, one behind another, each of so many bytes before so many pixels
@@ -17,7 +17,7 @@ pub record AreTexts (before side count head : ℕ) (bytes : List ℕ) : Type 0 w
   pub small : side ≤ 512
   pub few : count ≤ 64
   pub before_fits : before ≤ length bytes
-  pub head_is : head ≡ length (ppm side side [])
+  pub head_is : head ≡ length (pixels_text side side [])
   pub pixels : length bytes ≡ before + count * (head + side * side * 3)
   pub kept : drop before bytes
-      ≡ flat_map (ppm side side) (tiles_in head (side * side) count (drop before bytes))
+      ≡ flat_map (pixels_text side side) (tiles_in head (side * side) count (drop before bytes))

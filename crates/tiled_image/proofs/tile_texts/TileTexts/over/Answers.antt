@@ -2,7 +2,7 @@ use Rattle.std.proofs.Common.{◌*◌, length, replicate, ap, arith}
 use Rattle.std.proofs.lemmas.List.{length-replicate}
 use Rattle.plain_world.proofs.Windows.{size_bounds}
 use Rattle.tiled_image.specs.inner.Blanks.{text_of}
-use Rattle.tiled_image.proofs.TextsKept.{text_few, of_one}
+use Rattle.tiled_image.proofs.TextsKept.{text_short, of_one}
 use Rattle.tiled_image.proofs.tile_texts.TileTexts.over.Goals as goal
 
 pub copies-requires-clause-len : goal.copies-requires-clause-len
@@ -10,7 +10,7 @@ copies-requires-clause-len c =
     omega (
       arith,
       ap length c.in_ok-text.ensures.text,
-      text_few c.args.side (replicate (c.args.side * c.args.side) c.args.c) (size_bounds c.args.side c.requires.size).1 (length-replicate (c.args.side * c.args.side) c.args.c),
+      text_short c.args.side (replicate (c.args.side * c.args.side) c.args.c) (size_bounds c.args.side c.requires.size).1 (length-replicate (c.args.side * c.args.side) c.args.c),
     )
 
 pub invariant_of-result : goal.invariant_of-result
