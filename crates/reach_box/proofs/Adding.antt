@@ -2,6 +2,7 @@
 use Rattle.std.proofs.Common.{◌≡◌, ℕ, ◌+◌, ◌<◌, ◌≤◌, Bool, true, false, cond, nat_lt, ◌||◌, List, [], ◌∷◌, ◌++◌, length, take, drop, get_or, flat_map, position, Option, Some, None, refl, sym, ap, ap₂, ◌∙◌, subst, append-nil, append_assoc, arith}
 use Rattle.std.specs.Prelude.{slice_get, nat_eq}
 use Rattle.std.specs.List.{position_or_len}
+use Rattle.std.specs.List.Sorted.{IsPermutation}
 use Rattle.std.proofs.lemmas.Bool.{ltb-false}
 use Rattle.std.proofs.lemmas.List.Folds.{find_at}
 use Rattle.std.proofs.lemmas.Option.{slice_get_past}
@@ -13,9 +14,10 @@ use Rattle.plain_shapes.specs.Features.{Feature}
 use Rattle.plain_shapes.specs.Reach.{feature_reaches}
 use Rattle.geo_model.specs.declared.bounds.Bounds.{Bounds}
 use Rattle.reach_box.specs.Boxes.{IsBox, box_reaches}
-use Rattle.plain_shapes.specs.Data.{Change}
+use Rattle.plain_shapes.specs.Data.{Change, ids_of}
 use Rattle.reach_box.specs.NamedBoxes.{AreBoxesOf}
 use Rattle.reach_box.specs.inner.Lookups.{Adds, feature_list, at_id, at_put, met_by}
+use Rattle.reach_box.proofs.Naming.{met_ordered}
 
 both : (fs gs : List Feature) (a b : List Bounds) → AreBoxesOf fs a → AreBoxesOf gs b → AreBoxesOf (fs ++ gs) (a ++ b)
 both fs gs a b x y = record {
@@ -87,3 +89,16 @@ met_new c = sym (ap₂ (λ a b. a ++ b) (none_removed c.remove) (all_put c.put))
 pub kept_whole : {X : Type 0} (xs ys : List X) (n : ℕ) → ys ≡ xs → n ≡ length xs → take n (ys ++ drop (length ys) xs) ≡ xs
 kept_whole xs ys n same long =
     rw (same, long) (ap (λ zs. take (length xs) (xs ++ zs)) (drop_all (length xs) xs (omega arith)) ∙ ap (take (length xs)) (append-nil xs) ∙ take_all (length xs) xs (omega arith))
+
+-- the boxes of the old features of the ids of a change, in whatever order, and then of those that it puts
+pub adds_met : (fs : List Feature) (c : Change) (ids : List ℕ) (x y z : List Bounds) → IsPermutation (c.remove ++ ids_of c.put) ids → Adds (flat_map (at_id fs) ids) x y → Adds c.put y z → Adds (met_by fs c) x z
+adds_met fs c ids x y z moved old put =
+    let both = adds_then (flat_map (at_id fs) ids) c.put x y z old put in
+    record {
+      more = both.more;
+      is = both.is;
+      boxes = record {
+        sound = both.boxes.sound;
+        reach = λ size zoom s. both.boxes.reach size zoom s ∙ met_ordered (λ f. feature_reaches f size zoom s) fs c ids moved;
+      };
+    }

@@ -3,6 +3,8 @@ use Rattle.std.proofs.Common.{◌≡◌, ℕ, Bool, true, false, ◌||◌, ◌&&
 use Rattle.std.specs.Prelude.{nat_eq, option_map, unwrap_or}
 use Rattle.std.specs.Str.{bytes_eq}
 use Rattle.std.specs.List.{list_any, AllByRecursion, IsDistinct}
+use Rattle.std.specs.List.Sorted.{IsPermutation}
+use Rattle.std.proofs.lemmas.List.Sorted.{list_any-IsPermutation}
 use Rattle.std.proofs.lemmas.Bool.Decides.{nat_tests}
 use Rattle.std.proofs.lemmas.List.Elements.{recursion_from_All}
 use Rattle.std.proofs.lemmas.Map.Keys.{IsDistinct-head, IsDistinct-tail}
@@ -129,3 +131,34 @@ each_change q layers (c ∷ changes) each =
 
 pub met_named : (q : Feature → Bool) (layers : List Layer) (changes : List Change) → All IsLayer layers → list_any q (features_met layers changes) ≡ list_any q (named layers changes)
 met_named q layers changes valid = each_change q layers changes (recursion_from_All IsLayer layers valid)
+
+-- ---- in order
+
+-- some feature of one of the ids passes the test
+abbrev some_of : (Feature → Bool) → List Feature → List ℕ → Bool
+some_of q fs ids = list_any (λ id. list_any q (at_id fs id)) ids
+
+crossed : (a b c d : Bool) → ((a || (b || false)) || (c || d)) ≡ ((a || c) || (b || d))
+crossed a b c d = grind arith
+
+put_apart : (q : Feature → Bool) (fs puts : List Feature) → list_any q (flat_map (at_put fs) puts) ≡ (some_of q fs (ids_of puts) || list_any q puts)
+put_apart q fs [] = refl
+put_apart q fs (f ∷ puts) =
+    any-append q (at_put fs f) (flat_map (at_put fs) puts)
+    ∙ (ap₂ (λ a r. a || r) (any-append q (at_id fs f.id) (f ∷ [])) (put_apart q fs puts)
+    ∙ crossed (list_any q (at_id fs f.id)) (q f) (some_of q fs (ids_of puts)) (list_any q puts))
+
+-- the old features of the ids that a change removes or puts, in whatever order these are, and those that it puts are what it meets
+pub met_ordered : (q : Feature → Bool) (fs : List Feature) (c : Change) (ids : List ℕ) → IsPermutation (c.remove ++ ids_of c.put) ids → list_any q (flat_map (at_id fs) ids ++ c.put) ≡ list_any q (met_by fs c)
+met_ordered q fs c ids moved = apart ∙ (sym (grouped (some_of q fs c.remove) (some_of q fs (ids_of c.put)) (list_any q c.put)) ∙ sym met)
+  where
+    some_old : list_any q (flat_map (at_id fs) ids) ≡ (some_of q fs c.remove || some_of q fs (ids_of c.put))
+    some_old =
+        any_flat q (at_id fs) ids
+        ∙ (sym (list_any-IsPermutation (λ id. list_any q (at_id fs id)) (c.remove ++ ids_of c.put) ids moved) ∙ any-append (λ id. list_any q (at_id fs id)) c.remove (ids_of c.put))
+
+    apart : list_any q (flat_map (at_id fs) ids ++ c.put) ≡ ((some_of q fs c.remove || some_of q fs (ids_of c.put)) || list_any q c.put)
+    apart = any-append q (flat_map (at_id fs) ids) c.put ∙ ap (λ r. r || list_any q c.put) some_old
+
+    met : list_any q (met_by fs c) ≡ (some_of q fs c.remove || (some_of q fs (ids_of c.put) || list_any q c.put))
+    met = any-append q (flat_map (at_id fs) c.remove) (flat_map (at_put fs) c.put) ∙ ap₂ (λ a r. a || r) (any_flat q (at_id fs) c.remove) (put_apart q fs c.put)

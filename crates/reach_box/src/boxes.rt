@@ -1,12 +1,13 @@
 //! The bounding boxes of the features that an update names.
-ghost use Rattle.std.specs.Prelude.{◌≡◌, ◌≤◌, ◌∷◌, [], flat_map, position, OnOk, IfOk};
+ghost use Rattle.std.specs.Prelude.{◌≡◌, ◌≤◌, ◌∷◌, ◌++◌, [], flat_map, position, OnOk, IfOk, IsPermutation};
 ghost use Rattle.std.specs.Str.{bytes_eq};
 ghost use Rattle.plain_world.specs.World.{IsMeta, IsTileSize, meta_square};
+ghost use Rattle.plain_shapes.specs.Data.{ids_of};
 ghost use Rattle.farm_history.specs.Lists.{Each};
 ghost use Rattle.reach_box.specs.Boxes.{IsBox};
 ghost use Rattle.farm_plan.specs.Drawings.{features_in, named};
 ghost use Rattle.reach_box.specs.NamedBoxes.{AreBoxesOf, boxes_reach};
-ghost use Rattle.reach_box.specs.inner.Lookups.{Adds, at_id, at_put, met_by};
+ghost use Rattle.reach_box.specs.inner.Lookups.{Adds, at_id, met_by};
 
 use crate::box_of;
 use data_versions::{Change, Feature, LayerFinder, Snapshot, Update};
@@ -33,11 +34,7 @@ fn add_old(boxes: &mut Vec<Bounds>, layer: &LayerFinder<'_>, id: u64) -> Result<
     }
 }
 
-fn add_removed(
-    boxes: &mut Vec<Bounds>,
-    layer: &LayerFinder<'_>,
-    ids: &[u64],
-) -> Result<(), NoMemory>
+fn add_by_ids(boxes: &mut Vec<Bounds>, layer: &LayerFinder<'_>, ids: &[u64]) -> Result<(), NoMemory>
     ensures { OnOk result
         (Adds (flat_map (at_id layer.now.features) ids.now) boxes.old.items boxes.new.items) }
 {
@@ -47,20 +44,18 @@ fn add_removed(
     Ok(())
 }
 
-// Adds the boxes of the features that are put, and of the layer's features of their ids.
-fn add_put(
-    boxes: &mut Vec<Bounds>,
-    layer: &LayerFinder<'_>,
-    puts: &[Feature],
-) -> Result<(), NoMemory>
-    ensures { OnOk result
-        (Adds (flat_map (at_put layer.now.features) puts.now) boxes.old.items boxes.new.items) }
+// The ids that a change removes or puts, in order: features that stand side by side are then looked for one after
+// another, in memory that is still at hand.
+fn named_ids(alloc: Global, removed: &[u64], puts: &[Feature]) -> Result<Vec<u64>, NoMemory>
+    ensures { IfOk result (λ ids. IsPermutation (removed.now ++ ids_of puts.now) ids.items) }
 {
+    let mut ids = Vec::new(alloc);
+    ids.extend_from_slice(removed)?;
     for f in puts {
-        add_old(boxes, layer, f.id())?;
-        add_box(boxes, f)?;
+        ids.push(f.id())?;
     }
-    Ok(())
+    ids.sort_unstable();
+    Ok(ids)
 }
 
 fn add_new(boxes: &mut Vec<Bounds>, puts: &[Feature]) -> Result<(), NoMemory>
@@ -73,6 +68,7 @@ fn add_new(boxes: &mut Vec<Bounds>, puts: &[Feature]) -> Result<(), NoMemory>
 }
 
 fn add_changed(
+    alloc: Global,
     boxes: &mut Vec<Bounds>,
     layer: &LayerFinder<'_>,
     change: &Change,
@@ -80,8 +76,10 @@ fn add_changed(
     ensures { OnOk result
         (Adds (met_by layer.now.features change.now) boxes.old.items boxes.new.items) }
 {
-    add_removed(boxes, layer, change.remove.as_slice())?;
-    add_put(boxes, layer, change.put.as_slice())
+    let puts = change.put.as_slice();
+    let ids = named_ids(alloc, change.remove.as_slice(), puts)?;
+    add_by_ids(boxes, layer, ids.as_slice())?;
+    add_new(boxes, puts)
 }
 
 fn place_named(layers: &[LayerFinder<'_>], name: &str) -> Option<usize>
@@ -104,7 +102,7 @@ fn add_named(
         Some(at) => {
             let layer = &mut layers[at];
             layer.expect(alloc, change.remove.len().saturating_add(change.put.len()))?;
-            add_changed(boxes, layer, change)
+            add_changed(alloc, boxes, layer, change)
         }
         None => add_new(boxes, change.put.as_slice()),
     }
