@@ -1,9 +1,8 @@
 -- Hearing a piece, by cases.
-use Rattle.std.proofs.Common.{◌≡◌, ℕ, ◌<◌, ◌≤◌, List, [], ◌∷◌, ◌++◌, length, Bool, true, false, ◌||◌, Option, inl, inr, refl, sym, ap, subst, ◌∙◌, arith, append-nil}
+use Rattle.std.proofs.Common.{◌≡◌, ℕ, List, [], ◌∷◌, ◌++◌, Bool, true, false, ◌||◌, Option, inl, inr, refl, sym, ap, subst, ◌∙◌, append-nil}
 use Rattle.std.proofs.lemmas.Bool.{and_from, false≢true}
 use Rattle.std.proofs.Math.Bool.{or-false}
 use Rattle.std.specs.List.{list_any}
-use Rattle.farm_base.specs.Limits.{most_head_bytes}
 use Rattle.farm_history.specs.Entries.{Entry}
 use Rattle.farm_history.specs.declared.queues.Conn.{Conn}
 use Rattle.front_loop.specs.declared.dispositions.Disposition.{Disposition}
@@ -18,7 +17,7 @@ use Rattle.http_handler.specs.declared.conn_states.ConnState.{ConnState}
 use Rattle.http_handler.specs.ConnStates.{is_reading, is_answered, waits_in}
 use Rattle.http_handler.specs.Tiles.{BytesAsk, Wants, answers, http_asks, tile_rules, Knows}
 use Rattle.http_handler.specs.Steps.{want, tile_entries, whole_act, is_answer, starves_act, WhyOf, IsIdle, DidHttpAsk, DoesHttpAsk}
-use Rattle.http_handler.proofs.Wishes.{asked_is, asks_stay, no_both, open_all, shown_twice, reading_unanswered}
+use Rattle.http_handler.proofs.Wishes.{asked_is, asks_stay, no_both, open_all, reading_unanswered}
 
 module _ (front : ℕ) (maps : List ℕ → Option ℕ) where
   -- the one ask that was asked, and what the bytes ask
@@ -73,14 +72,12 @@ module _ (front : ℕ) (maps : List ℕ → Option ℕ) where
 
   -- more bytes are waited for
   pub hears_open : (c : ℕ) (piece : List ℕ) (mine : List Entry) (conn_state conn_state' : ConnState) (response : List ℕ) → response ≡ [] → is_reading conn_state.stage ≡ true → conn_state'.stage ≡ conn_state.stage
-      → (length conn_state.head.items ≤ most_head_bytes → conn_state'.head.items ≡ bytes_read (conn_state.head.items ++ piece)) → IsOpen (bytes_read conn_state'.head.items)
+      → conn_state'.head.items ≡ bytes_read (conn_state.head.items ++ piece) → IsOpen conn_state'.head.items
       → Hears (tile_rules front maps) Knows c piece mine mine conn_state conn_state' response Stays
   hears_open c piece mine conn_state conn_state' response empty reads same kept is given ms knows wants whole unread =
       let head = knows.head reads in
-      let short : length given < most_head_bytes = head.1 in
-      let kept_is : conn_state'.head.items ≡ bytes_read (given ++ piece) =
-      subst (λ (h : List ℕ). length h ≤ most_head_bytes → conn_state'.head.items ≡ bytes_read (h ++ piece)) head.0 kept (omega arith) in
-      let opens : IsOpen (bytes_read (given ++ piece)) = subst (λ (b : List ℕ). IsOpen b) (ap bytes_read kept_is ∙ shown_twice (given ++ piece)) is in
+      let kept_is : conn_state'.head.items ≡ bytes_read (given ++ piece) = subst (λ (h : List ℕ). conn_state'.head.items ≡ bytes_read (h ++ piece)) head.0 kept in
+      let opens : IsOpen (bytes_read (given ++ piece)) = subst IsOpen kept_is is in
       let all = open_all (given ++ piece) opens in
       let none = asked_is front maps ms ∙ head.2 in
       let still : Wants maps (given ++ piece) (wants_of (tile_rules front maps) ms) = subst (λ (ws : List HttpAsk). Wants maps (given ++ piece) ws) (sym none) opens in
@@ -116,15 +113,13 @@ module _ (front : ℕ) (maps : List ℕ → Option ℕ) where
 
   -- the ask that became whole was done
   hears_act : (c : Conn) (piece : List ℕ) (w : HttpAsk) (mine mine' : List Entry) (conn_state conn_state' : ConnState) (response : List ℕ) (disposition : Disposition) (a : Act) → c.front ≡ front
-      → is_reading conn_state.stage ≡ true → (length conn_state.head.items ≤ most_head_bytes → conn_state'.head.items ≡ bytes_read (conn_state.head.items ++ piece))
-      → BytesAsk maps (bytes_read conn_state'.head.items) w → DidHttpAsk c w mine mine' conn_state'.stage response disposition a
+      → is_reading conn_state.stage ≡ true → conn_state'.head.items ≡ bytes_read (conn_state.head.items ++ piece)
+      → BytesAsk maps conn_state'.head.items w → DidHttpAsk c w mine mine' conn_state'.stage response disposition a
       → Hears (tile_rules front maps) Knows c.number piece mine mine' conn_state conn_state' response disposition
   hears_act c piece w mine mine' conn_state conn_state' response disposition a own reads kept asks did given ms knows wants whole unread =
       let head = knows.head reads in
-      let short : length given < most_head_bytes = head.1 in
-      let kept_is : conn_state'.head.items ≡ bytes_read (given ++ piece) =
-      subst (λ (h : List ℕ). length h ≤ most_head_bytes → conn_state'.head.items ≡ bytes_read (h ++ piece)) head.0 kept (omega arith) in
-      let asks_now : BytesAsk maps (bytes_read (given ++ piece)) w = subst (λ (b : List ℕ). BytesAsk maps b w) (ap bytes_read kept_is ∙ shown_twice (given ++ piece)) asks in
+      let kept_is : conn_state'.head.items ≡ bytes_read (given ++ piece) = subst (λ (h : List ℕ). conn_state'.head.items ≡ bytes_read (h ++ piece)) head.0 kept in
+      let asks_now : BytesAsk maps (bytes_read (given ++ piece)) w = subst (λ (b : List ℕ). BytesAsk maps b w) kept_is asks in
       let once : http_asks (Does a ∷ ms) ≡ w ∷ [] = ap (λ (ws : List HttpAsk). ws ++ want a ∷ []) head.2 ∙ ap (λ (v : HttpAsk). v ∷ []) did.want_is in
       let wanted : Wants maps (given ++ piece) (wants_of (tile_rules front maps) (Does a ∷ ms)) = wants_one (given ++ piece) (Does a ∷ ms) w once asks_now in
       let unanswered : list_any answers ms ≡ false = knows.ends ∙ reading_unanswered conn_state.stage reads in
@@ -146,8 +141,8 @@ module _ (front : ℕ) (maps : List ℕ → Option ℕ) where
       }
 
   pub hears_http_ask : (c : Conn) (piece : List ℕ) (w : HttpAsk) (mine mine' : List Entry) (conn_state conn_state' : ConnState) (response : List ℕ) (disposition : Disposition) → c.front ≡ front
-      → is_reading conn_state.stage ≡ true → (length conn_state.head.items ≤ most_head_bytes → conn_state'.head.items ≡ bytes_read (conn_state.head.items ++ piece))
-      → BytesAsk maps (bytes_read conn_state'.head.items) w → DoesHttpAsk c w mine mine' conn_state'.stage response disposition
+      → is_reading conn_state.stage ≡ true → conn_state'.head.items ≡ bytes_read (conn_state.head.items ++ piece)
+      → BytesAsk maps conn_state'.head.items w → DoesHttpAsk c w mine mine' conn_state'.stage response disposition
       → Hears (tile_rules front maps) Knows c.number piece mine mine' conn_state conn_state' response disposition
   hears_http_ask c piece w mine mine' conn_state conn_state' response disposition own reads kept asks (inl idle) = hears_starved c.number piece mine mine' conn_state conn_state' response disposition reads idle
   hears_http_ask c piece w mine mine' conn_state conn_state' response disposition own reads kept asks (inr (a, did)) = hears_act c piece w mine mine' conn_state conn_state' response disposition a own reads kept asks did

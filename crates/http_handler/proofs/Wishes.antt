@@ -1,7 +1,6 @@
 -- Wishes: what bytes ask stays so, and what one act of a connection means for its moves.
-use Rattle.std.proofs.Common.{◌≡◌, ℕ, ◌<◌, ◌≤◌, ◌-◌, List, [], ◌∷◌, ◌++◌, length, take, Bool, true, false, eqb, eq-eqb, cond, ◌+◌, Option, Some, None, refl, sym, ap, subst, ◌∙◌, arith}
+use Rattle.std.proofs.Common.{◌≡◌, ℕ, ◌<◌, List, [], ◌∷◌, ◌++◌, length, Bool, true, false, eqb, eq-eqb, cond, Option, Some, None, refl, sym, ap, subst, arith}
 use Rattle.std.proofs.lemmas.List.{take_all, length-take}
-use Rattle.std.proofs.Math.Seq.{take-append-add}
 use Rattle.farm_base.specs.Limits.{most_head_bytes}
 use Rattle.tile_http.specs.Heads.{bytes_read, IsOpen, IsNothing, IsPart, IsFull}
 use Rattle.tile_http.proofs.HeadTexts.{bad_stays, whole_stays}
@@ -55,15 +54,6 @@ open_all given is =
     let l = open_short (bytes_read given) is in
     let n : length given < most_head_bytes = let e = length-take most_head_bytes given in omega (arith, e, l) in
     (n, take_all most_head_bytes given (omega arith))
-
--- what is kept of a piece behind a head
-pub kept_is : (head piece : List ℕ) → length head ≤ most_head_bytes → head ++ take (most_head_bytes - length head) piece ≡ bytes_read (head ++ piece)
-kept_is head piece h =
-    let all : length head + (most_head_bytes - length head) ≡ most_head_bytes = omega arith in
-    sym (take-append-add head piece (most_head_bytes - length head)) ∙ ap (λ (n : ℕ). take n (head ++ piece)) all
-
-pub shown_twice : (given : List ℕ) → bytes_read (bytes_read given) ≡ bytes_read given
-shown_twice given = let e = length-take most_head_bytes given in take_all most_head_bytes (bytes_read given) (omega (arith, e))
 
 -- a spot is the same as itself
 same_number : (n : ℕ) → eqb n n ≡ true

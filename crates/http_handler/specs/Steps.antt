@@ -12,7 +12,6 @@ use Rattle.front_loop.specs.declared.context.Context.{Context}
 use Rattle.front_loop.specs.Front.{keeps}
 use Rattle.front_loop.specs.Rules.{Rules}
 use Rattle.tile_http.specs.Heads.{IsOpen}
-use Rattle.tile_http.specs.Targets.{Place}
 use Rattle.tile_http.specs.Answers.{tile_answer}
 use Rattle.http_handler.specs.declared.acts.HttpAsk.{HttpAsk}
 use Rattle.http_handler.specs.declared.acts.Act.{Act}
@@ -62,10 +61,6 @@ starves_act a = (ask_done a).starves
 
 -- ---- spots
 
--- the spot of a place, where these are the farm's maps by their names
-abbrev pub place_spot : (List ℕ → Option ℕ) → Place → Spot
-place_spot maps p = record { map = maps p.name; z = p.z; x = p.x; y = p.y }
-
 -- both are the same spot
 abbrev pub same_spot : Spot → Spot → Bool
 same_spot s t = option_eq (λ m n. m == n) s.map t.map && (s.z == t.z && (s.x == t.x && s.y == t.y))
@@ -88,11 +83,6 @@ WhyOf starved (Leaves _) = ⊥
 pub record Says (text response : List ℕ) (disposition : Disposition) : Type 0 where
   pub why : WhyOf false disposition
   pub response_is : keeps disposition ≡ true → response ≡ text
-
--- the answer to a tile that was fetched; want of memory has none
-pub record SaysTile (f : Fetched) (response : List ℕ) (disposition : Disposition) : Type 0 where
-  pub why : WhyOf (found_no_memory f) disposition
-  pub response_is : keeps disposition ≡ true → response ≡ tile_answer f
 
 -- nothing was done: the turn was worn
 abbrev pub IsIdle : List Entry → List Entry → Disposition → Type 0

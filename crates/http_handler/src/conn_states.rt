@@ -1,6 +1,5 @@
 //! What is kept of a session.
-ghost use Rattle.std.specs.Prelude.{◌≡◌, ◌≤◌, ◌-◌, ◌++◌, OnOk, length, take};
-ghost use Rattle.farm_base.specs.Limits.{most_head_bytes};
+ghost use Rattle.std.specs.Prelude.{◌≡◌, ◌++◌, OnOk};
 ghost use Rattle.tile_http.specs.Heads.{bytes_read};
 ghost use Rattle.http_handler.specs.ConnStates as spec;
 
@@ -32,13 +31,6 @@ pub(crate) fn is_reading(stage: Stage) -> bool
     matches!(stage, Stage::Reading)
 }
 
-/// Whether the request was answered.
-pub(crate) fn is_answered(stage: Stage) -> bool
-    ensures { result ≡ spec.is_answered stage }
-{
-    matches!(stage, Stage::Answered)
-}
-
 /// The spot whose ask of this number waits.
 pub(crate) fn spot_of_ask(stage: Stage, ask: u64) -> Option<Spot>
     ensures { result ≡ spec.spot_at ask (spec.waits_in stage) }
@@ -49,31 +41,11 @@ pub(crate) fn spot_of_ask(stage: Stage, ask: u64) -> Option<Spot>
     }
 }
 
-/// The bytes of a connection that are read.
-pub(crate) fn read_part(bytes: &[u8]) -> &[u8]
-    ensures { result.now ≡ bytes_read bytes.entry.now }
-{
-    if bytes.len() <= MOST_HEAD_BYTES {
-        return bytes;
-    }
-    &bytes[..MOST_HEAD_BYTES]
-}
-
 /// Puts a piece behind a head, as far as it is read.
 pub(crate) fn keep(head: &mut Vec<u8>, piece: &[u8]) -> Result<(), NoMemory>
-    ensures { length head.old.items ≤ most_head_bytes
-        → OnOk result (head.new.items ≡ bytes_read (head.old.items ++ piece.now)) }
+    ensures { OnOk result (head.new.items ≡ bytes_read (head.old.items ++ piece.now)) }
 {
-    head.extend_from_slice(part_for(piece, head.as_slice()))?;
+    head.extend_from_slice(piece)?;
+    head.truncate(MOST_HEAD_BYTES);
     Ok(())
-}
-
-fn part_for<'a>(piece: &'a [u8], head: &[u8]) -> &'a [u8]
-    ensures { result.now ≡ take (most_head_bytes - length head.now) piece.entry.now }
-{
-    let room = MOST_HEAD_BYTES.saturating_sub(head.len());
-    if piece.len() <= room {
-        return piece;
-    }
-    &piece[..room]
 }

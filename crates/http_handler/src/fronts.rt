@@ -3,11 +3,11 @@ ghost use Rattle.std.specs.Prelude.{refl};
 ghost use Rattle.http_handler.specs.Tiles.{tile_rules, Knows};
 
 use crate::acts::{Act, HttpAsk};
-use crate::conn_states::{ConnState, Stage, is_answered};
-use crate::hearing::{hear_piece, take_reply};
+use crate::conn_states::{ConnState, Stage, is_reading, keep, spot_of_ask};
+use crate::serving::{fetch_and_say, http_ask_in, serve_http_ask};
 use farm_base::Worn;
-use farm_history::Reply;
-use front_loop::{Context, Disposition, Farm, Front, Piece};
+use farm_history::{Conn, Reply};
+use front_loop::{Context, Disposition, Farm, Front, Piece, Reason};
 use std::alloc::Global;
 use std::sync::Wait;
 
@@ -39,6 +39,7 @@ impl Front for Tiles {
         }
     }
 
+    /// Reads the bytes of the one head, and does the ask that becomes whole by them.
     fn hear<R: Wait, M: Farm>(
         context: &Context<'_, R, M, Tiles>,
         seat: &mut M::Seat,
@@ -46,9 +47,24 @@ impl Front for Tiles {
         piece: &Piece<'_>,
         response: &mut Vec<u8>,
     ) -> Result<Disposition, Worn> {
-        hear_piece(context, seat, conn_state, piece, response)
+        if !is_reading(conn_state.stage) {
+            return Ok(Disposition::Stays);
+        }
+        let Ok(()) = keep(&mut conn_state.head, piece.bytes) else {
+            return Ok(Disposition::Leaves(Reason::Starved));
+        };
+        let Some(http_ask) = http_ask_in(context.farm, conn_state.head.as_slice()) else {
+            return Ok(Disposition::Stays);
+        };
+        let conn = Conn {
+            front: context.front.front,
+            number: piece.conn,
+        };
+        let stage = &mut conn_state.stage;
+        serve_http_ask(context, seat, conn, http_ask, stage, response)
     }
 
+    /// Fetches the tile that waits for the reply.
     fn reply<R: Wait, M: Farm>(
         context: &Context<'_, R, M, Tiles>,
         seat: &mut M::Seat,
@@ -56,11 +72,15 @@ impl Front for Tiles {
         reply: Reply,
         response: &mut Vec<u8>,
     ) -> Result<Disposition, Worn> {
-        take_reply(context, seat, conn_state, reply, response)
+        let Some(spot) = spot_of_ask(conn_state.stage, reply.ask) else {
+            return Ok(Disposition::Stays);
+        };
+        conn_state.stage = Stage::Answered;
+        fetch_and_say(context, seat, spot, response)
     }
 
     fn is_done(&self, conn_state: &ConnState) -> bool {
-        is_answered(conn_state.stage)
+        matches!(conn_state.stage, Stage::Answered)
     }
 
     ghost alone = { λ tiles maps reply ms. (refl, refl) };

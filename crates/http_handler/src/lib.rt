@@ -11,7 +11,6 @@
 mod acts;
 mod conn_states;
 mod fronts;
-mod hearing;
 mod serving;
 
 pub use acts::{Act, HttpAsk};

@@ -6,7 +6,7 @@ ghost use Rattle.front_loop.specs.Calls.{SameSeat};
 ghost use Rattle.front_loop.specs.Front.{disposition_of};
 ghost use Rattle.http_handler.specs.Tiles as spec;
 ghost use Rattle.tile_http.specs.Answers.{fault_answer};
-ghost use Rattle.http_handler.specs.Steps.{Finds, Fetches, DoesHttpAsk, Says, SaysTile, place_spot};
+ghost use Rattle.http_handler.specs.Steps.{Finds, Fetches, DoesHttpAsk, Says};
 ghost use Rattle.http_handler.specs.declared.acts.HttpAsk.TheVariants as http_ask;
 
 use crate::acts::HttpAsk;
@@ -31,7 +31,12 @@ pub(crate) fn http_ask_in<M: Farm>(farm: &M, bytes: &[u8]) -> Option<HttpAsk>
         Request::NotGet => Some(HttpAsk::NotGet),
         Request::NoTarget => Some(HttpAsk::NoTarget),
         Request::Get(target) => {
-            let spot = spot_of(farm, target.name, target.z, target.x, target.y);
+            let spot = Spot {
+                map: farm.map_of(target.name.as_bytes()),
+                z: target.z,
+                x: target.x,
+                y: target.y,
+            };
             Some(http_ask_of(target.kind, spot))
         }
     }
@@ -45,14 +50,6 @@ fn http_ask_of(kind: Kind, spot: Spot) -> HttpAsk
         Kind::Status => HttpAsk::Status(spot),
         Kind::Dirty => HttpAsk::Dirty(spot),
     }
-}
-
-fn spot_of<M: Farm>(farm: &M, name: &str, z: u32, x: u32, y: u32) -> Spot
-    ensures { result ≡ place_spot (M.map_at farm.now)
-        (record { name = name.now; z = z; x = x; y = y }) }
-{
-    let map = farm.map_of(name.as_bytes());
-    Spot { map, z, x, y }
 }
 
 /// Does an ask, and puts the bytes that are answered to it into `response`.
@@ -170,17 +167,10 @@ pub(crate) fn fetch_and_say<R: Wait, M: Farm>(
     let Ok(fetched) = context.farm.turn(context.rt, seat, Fetch { alloc, spot }) else {
         return Err(Worn);
     };
-    Ok(say_tile(alloc, &fetched, response))
-}
-
-fn say_tile(alloc: Global, fetched: &Fetched, response: &mut Vec<u8>) -> Disposition
-    requires { response.old.items ≡ [] }
-    ensures { SaysTile fetched.now response.new.items result }
-{
     if matches!(fetched, Fetched::NoMemory) {
-        return Disposition::Leaves(Reason::NoMemory);
+        return Ok(Disposition::Leaves(Reason::NoMemory));
     }
-    disposition_of_put(put_tile(alloc, fetched, response))
+    Ok(disposition_of_put(put_tile(alloc, &fetched, response)))
 }
 
 fn disposition_of_put(put: Result<(), NoMemory>) -> Disposition

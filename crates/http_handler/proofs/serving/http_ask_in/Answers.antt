@@ -1,4 +1,5 @@
-use Rattle.std.proofs.Common.{sym, subst}
+use Rattle.std.proofs.Common.{ℕ, Option, sym, subst, ap, ◌∙◌}
+use Rattle.farm_history.specs.declared.asks.Spot.{Spot}
 use Rattle.tile_http.specs.Targets.{place_of}
 use Rattle.http_handler.specs.declared.acts.HttpAsk.{HttpAsk}
 use Rattle.http_handler.specs.Tiles.{BytesAsk}
@@ -7,5 +8,8 @@ use Rattle.http_handler.proofs.serving.http_ask_in.Goals as goal
 
 pub returns-in-Get : goal.returns-in-Get
 returns-in-Get g c =
-    subst (λ (w : HttpAsk). BytesAsk (g.M.Farm.map_at c.args.farm.now) c.args.bytes.now w) (sym c.http_ask_of.ensures)
-    (asks_of (g.M.Farm.map_at c.args.farm.now) c.args.bytes.now c.in-Get.target.kind c.spot_of-spot.result (place_of c.in-Get.target, c.in-Get.ensures, c.spot_of-spot.ensures))
+    let target = c.in-Get.target in
+    let spot : Option ℕ → Spot = λ map. record { map = map; z = target.z; x = target.x; y = target.y } in
+    let maps = g.M.Farm.map_at c.args.farm.now in
+    subst (λ (w : HttpAsk). BytesAsk maps c.args.bytes.now w) (sym c.http_ask_of.ensures)
+    (asks_of maps c.args.bytes.now target.kind (spot c.map_of.result) (place_of target, c.in-Get.ensures, ap spot (c.map_of.ensures ∙ ap maps c.as_bytes.ensures.value)))

@@ -1,6 +1,6 @@
 use Rattle.std.proofs.Common.{refl, sym, ◌∙◌}
 use Rattle.http_handler.proofs.Replieds.{replies_none, replies_fetched}
-use Rattle.http_handler.proofs.hearing.take_reply.Goals as goal
+use Rattle.http_handler.proofs.fronts.TilesFront.reply.Goals as goal
 
 pub returns-in_default-clause-replied : goal.returns-in_default-clause-replied
 returns-in_default-clause-replied g c =
