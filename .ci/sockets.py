@@ -107,10 +107,13 @@ class Farm:
 
     renderd, control = "renderd.sock", "control.sock"
 
-    def __init__(self, program, limit=None, user=None, **more):
+    def __init__(self, program, limit=None, user=None, by_tcp=False, **more):
         self.tiles = ("127.0.0.1", free_port())
-        name = wanted.config("sockets", renderd="unix:" + self.renderd, tiles="tcp:%s:%d" % self.tiles,
-                             control="unix:" + self.control, **{"updates": ["west.update"], **more})  # fmt: skip
+        if by_tcp:
+            self.renderd, self.control = ("127.0.0.1", free_port()), ("127.0.0.1", free_port())
+        said = lambda it: "unix:" + it if isinstance(it, str) else "tcp:%s:%d" % it
+        name = wanted.config("sockets", renderd=said(self.renderd), tiles=said(self.tiles), control=said(self.control),
+                             **{"updates": ["west.update"], **more})  # fmt: skip
         content = wanted.FILES.pop(name)
         for name, content in [(name, content)] + [(it, wanted.FILES[it]) for it in ("red.style", "square.data", "west.update")]:
             with open(name, "wb") as out:
@@ -279,6 +282,23 @@ def run_of_large_tiles(farm):
     same("the third end", farm.ended(), (0, wanted.tally(7, 6, 4, 1), ""))
 
 
+def run_over_loopback(farm):
+    """All three fronts on loopback, each at the address that is named alone. Each drawing lasts longer than a front is awake
+    that has nothing to do, so its answer comes in time only where the worker wakes that front."""
+    picture = lambda colour: wanted.tile(b"P6\n%d %d\n255\n" % (LARGE, LARGE) + colour * LARGE**2)
+    told("a Done over loopback", farm.renderd, wanted.message(wanted.RENDER, 3, 1, 2), wanted.message(wanted.DONE, 3, 1, 2))
+    for place in (farm.renderd, farm.tiles, farm.control):
+        try:
+            connected(("127.0.0.2", place[1])).close()
+        except ConnectionRefusedError:
+            continue
+        raise Unlike("another address of this machine is listened at")
+    told("another tile of the same metatile", farm.tiles, wanted.get("/default/3/2/2.ppm"), picture(wanted.RED), True)
+    told("the tile of another one, which is not drawn yet", farm.tiles, wanted.get("/default/4/4/3.ppm"), picture(wanted.WHITE), True)
+    told("stop", farm.control, b"stop\n", b"stopping\n")
+    same("the end", farm.ended(), (0, wanted.tally(3, 3, 2, 0), ""))
+
+
 def run_beside_a_busy_one(farm):
     """A connection on which something always comes, and beside it two that ask once: one that was there before."""
     ignored = wanted.message(0, 0, 0, 0) * 1024
@@ -393,6 +413,7 @@ def runs_of_sockets(program):
         is_refused_a_file(program)
         serves(program, run_of_large_tiles, maps=[{"name": "default", "style": "red.style", "tile": LARGE}])
         leaves_nothing()
+        serves(program, run_over_loopback, by_tcp=True, maps=[{"name": "default", "style": "red.style", "tile": LARGE}])
         serves(program, run_beside_a_busy_one)
         with open(SAVED, "wb") as out:
             out.write(wanted.saved_text([0], [], [(18, 8 * number, 8, 0) for number in range(MOST)]))

@@ -231,6 +231,13 @@ class Case:
             want += side.known
         WANTED.append(want)
 
+    def wants_like(self, sink, name, text, how, status=0, out=b"", err=""):
+        """What is told of the case: its status, how what stands on a sink is like a text, and what stands on the other one."""
+        self.say("like", sink, file(name, text))
+        told = b"%s: %s\n" % (sink.encode(), how.encode())
+        puts = [told, err.encode()] if sink == "out" else [out, told]
+        WANTED.append(b"case %s\nstatus %d\n" % (self.name.encode(), status) + b"".join(puts))
+
 
 PORTS_FAILED = "tilefarm: the ports failed\n"
 STORE_FAILED = "tilefarm: the store failed\n"
@@ -1051,6 +1058,87 @@ case.renderd.open()
 case.renderd.piece(0, ROW, ROW_FILE)
 case.renderd.waits(0, 64)
 case.wants_status(4)
+
+# --- calls of which reads or puts fail, by the number of the read or put ------------------------------------------------
+
+SAME, FRONT, MORE = "the same", "a front", "more"
+
+
+def called(name, *words):
+    """A call with these words."""
+    made = Case(name)
+    made.words = list(words)
+    return made
+
+
+def unread(name):
+    return "tilefarm: %s: cannot be read\n" % name
+
+
+# two rasters that no layer shows
+raster = file("red.raster", b"P6 1 1 255\n" + RED)
+rasters = [{"name": name, "file": raster, "west": 0, "north": 0, "pixel": 1} for name in ("a", "b")]
+file("two_rasters.style", json.dumps({"styles": [], "layers": [], "rasters": rasters}) + "\n")
+file("nothing.data", '{"layers":[]}\n')
+DRAWING = ("render", "two_rasters.style", "nothing.data", "16", "0", "0", "0")
+EMPTY_TILE = picture(0, 0, 0, colour=WHITE)
+assert len(EMPTY_TILE) == 781
+case = called("a drawing", *DRAWING)
+case.wants_like("out", "white.picture", EMPTY_TILE, SAME)
+# a put on err that is to fail asks nothing of a success
+case = called("a success puts nothing on err", *DRAWING)
+case.say("err 0")
+case.wants_like("out", "white.picture", EMPTY_TILE, SAME)
+case = called("a tile whose put fails", *DRAWING)
+case.say("out 0")
+case.wants_like("out", "white.picture", EMPTY_TILE, FRONT, status=4)
+case = called("a refusal whose put fails")
+case.say("err 0")
+case.wants_like("err", "usage", USAGE, FRONT, status=4)
+
+# a container of one tile, of one byte that is 0, behind the head of 532 bytes
+file("one_byte.meta", (b"META" + numbers(64, 0, 0, 0, 532, 1)).ljust(532, b"\0") + bytes(1))
+case = called("a container", "meta", "one_byte.meta")
+case.wants(out="0 0 0\n0 532 1\n", left="store")
+case = called("a container whose read fails", "meta", "one_byte.meta")
+case.say("read 0")
+case.wants(status=3, err=unread("one_byte.meta"), left="store")
+# the sink takes half of a put that fails
+case = called("a container whose put fails", "meta", "one_byte.meta")
+case.say("out 0")
+case.wants(status=4, out="0 0 0\n0", left="store")
+
+# The script draws the world, draws it again behind an expiry, and asks for it once more. The feature is too small to be seen.
+config("speck", data="speck.data", renderd=None, tiles=None, control=None)
+file("speck.data", '{"units":"world","layers":[{"name":"land","features":[{"id":1,"geometry":{"polygon":[[[0,0],[9,0],[9,9]]]}}]}]}\n')
+file("twice.script", "".join(line + "\n" for line in (
+    "ask 0 render default 0 0 0", "claim 0", "finish 0", "collect 0", "expire 0 0 0", "ask 0 render default 0 0 0", "claim 0",
+    "finish 1", "collect 0", "look default 0 0 0", "ask 0 render default 0 0 0", "claim 0", "finish 2", "fetch default 0 0 0")))  # fmt: skip
+TWICE = ("script", "speck.config", "twice.script")
+ANSWERS = "".join(line + "\n" for line in (
+    "queued 0", "job 0 default 0 0 0 0", "clean", "reply 0 0 done", "expired 1", "queued 1", "job 1 default 0 0 0 0", "clean",
+    "reply 0 1 done", "clean 0", "done", "idle", "nojob", "clean 0 781")).encode() + EMPTY_TILE + b"\n"  # fmt: skip
+for read, name in enumerate(("speck.config", "red.style", "speck.data", "twice.script")):
+    case = called("a script whose reads fail: %d" % read, *TWICE)
+    case.say("read", read)
+    case.wants(status=3, err=unread(name), left="store")
+case = called("a script", *TWICE)
+case.wants_like("out", "twice.answers", ANSWERS, SAME)
+# one put for each answer, and two more for the bytes of the tile; there is no further one that could fail
+for put in range(17):
+    case = called("a script whose puts fail: %d" % put, *TWICE)
+    case.say("out", put)
+    case.wants_like("out", "twice.answers", ANSWERS, *((FRONT, 4) if put < 16 else (SAME, 0)))
+
+# --- refusals that are rare, and work over more features than the cases of scripts have ------------------------------------
+
+for words in (["script", "C"], ["script", "C", "S", "T"], ["load", "1"], ["load", "1", "2", "3"], ["serve"], ["meta", "M", "N"]):
+    case = called("words too few and too many: " + " ".join(words), *words)
+    case.wants(status=2, err=USAGE, left="store")
+case = called("a long name", "meta", 200 * "n")
+case.wants(status=3, err=unread(200 * "n"), left="store")
+case = called("work over many features", "load", "1", "3000")
+case.wants_like("out", "features_3000", "features 3000 asks 32 ", MORE)
 
 
 def main(folder):

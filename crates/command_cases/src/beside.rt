@@ -1,4 +1,6 @@
 //! The files of a case.
+ghost use Rattle.std.specs.Prelude.{◌≡◌};
+
 use farm_base::{FileFault, Files, MemFiles};
 use std::alloc::Global;
 use std::mem::replace;
@@ -8,15 +10,20 @@ use std::mem::replace;
 pub struct CaseFiles<F> {
     all: F,
     alone: Option<MemFiles>,
+    // the reads that fail, and how many there were
+    fails: Vec<u64>,
+    reads: u64,
     faults: u64,
 }
 
 impl<F: Files> CaseFiles<F> {
     /// These files.
-    pub(crate) fn new(all: F) -> CaseFiles<F> {
+    pub(crate) fn new(alloc: Global, all: F) -> CaseFiles<F> {
         CaseFiles {
             all,
             alone: None,
+            fails: Vec::new(alloc),
+            reads: 0,
             faults: 0,
         }
     }
@@ -24,6 +31,32 @@ impl<F: Files> CaseFiles<F> {
     /// Until others are told, there are these files alone or, where none are told, all.
     pub(crate) fn keep_to(&mut self, alone: Option<MemFiles>) {
         drop(replace(&mut self.alone, alone));
+    }
+
+    /// The reads of these numbers are to fail, counted from 0 from now on.
+    pub(crate) fn fail(&mut self, reads: Vec<u64>) {
+        drop(replace(&mut self.fails, reads));
+        self.reads = 0;
+    }
+
+    fn is_to_fail(&mut self) -> bool
+        ensures { self.new.faults ≡ self.old.faults }
+    {
+        let read = self.reads;
+        self.reads = read.saturating_add(1);
+        self.fails.as_slice().iter().any(|number| *number == read)
+    }
+
+    fn read_any(&mut self, alloc: Global, name: &str) -> Result<Vec<u8>, FileFault>
+        ensures { self.new.faults ≡ self.old.faults }
+    {
+        if self.is_to_fail() {
+            return Err(FileFault::Failed);
+        }
+        match &mut self.alone {
+            Some(files) => files.read(alloc, name),
+            None => self.all.read(alloc, name),
+        }
     }
 }
 
@@ -35,11 +68,7 @@ impl<F: Files> Files for CaseFiles<F> {
     ghost counted = { λ _. tt };
 
     fn read(&mut self, alloc: Global, name: &str) -> Result<Vec<u8>, FileFault> {
-        let read = match &mut self.alone {
-            Some(files) => files.read(alloc, name),
-            None => self.all.read(alloc, name),
-        };
-        match read {
+        match self.read_any(alloc, name) {
             Ok(bytes) => Ok(bytes),
             Err(FileFault::NoMemory) => Err(FileFault::NoMemory),
             Err(FileFault::Failed) => {

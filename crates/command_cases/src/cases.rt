@@ -44,6 +44,10 @@ pub enum Telling {
     Status,
     /// What stands on out and on err, and then the status.
     Command,
+    /// The status, how what stands on out is like a text, and what stands on err.
+    LikeOut,
+    /// The same, out and err exchanged.
+    LikeErr,
 }
 
 /// A case.
@@ -58,11 +62,15 @@ pub struct Case {
     pub take: usize,
     /// The bytes of `farm.saved` in the store, if there is such a path.
     pub saved: Option<Bytes>,
-    /// The puts and the gets of the store, and the puts on out, that fail.
+    /// The puts and the gets of the store, the puts on out and on err, and the reads of files, that fail.
     pub puts: Vec<u64>,
     pub gets: Vec<u64>,
     pub outs: Vec<u64>,
+    pub errs: Vec<u64>,
+    pub reads: Vec<u64>,
     pub telling: Telling,
+    /// The text that what stands on a sink is told beside.
+    pub like: Vec<u8>,
 }
 
 impl Case {
@@ -78,7 +86,10 @@ impl Case {
             puts: Vec::new(alloc),
             gets: Vec::new(alloc),
             outs: Vec::new(alloc),
+            errs: Vec::new(alloc),
+            reads: Vec::new(alloc),
             telling: Telling::All,
+            like: Vec::new(alloc),
         }
     }
 
@@ -103,6 +114,14 @@ impl Case {
             "put" => self.puts.push(number(rest)?).ok(),
             "get" => self.gets.push(number(rest)?).ok(),
             "out" => self.outs.push(number(rest)?).ok(),
+            "err" => self.errs.push(number(rest)?).ok(),
+            "read" => self.reads.push(number(rest)?).ok(),
+            "like" => {
+                let (sink, file) = cut(rest, ' ')?;
+                self.telling = like_of(sink)?;
+                self.like = files.read(alloc, file).ok()?;
+                Some(())
+            }
             _ => self.set(name, rest),
         }
     }
@@ -121,6 +140,14 @@ fn telling_of(text: &str) -> Option<Telling> {
     match text {
         "lengths" => Some(Telling::Lengths),
         "status" => Some(Telling::Status),
+        _ => None,
+    }
+}
+
+fn like_of(sink: &str) -> Option<Telling> {
+    match sink {
+        "out" => Some(Telling::LikeOut),
+        "err" => Some(Telling::LikeErr),
         _ => None,
     }
 }

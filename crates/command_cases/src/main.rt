@@ -35,7 +35,7 @@ use std::sync::Wait;
 use std::thread::Threads;
 
 fn main(rt: HostRuntime) -> ExitCode {
-    let mut files = CaseFiles::new(DiskFiles::new(rt));
+    let mut files = CaseFiles::new(rt.alloc(), DiskFiles::new(rt));
     let mut out = OutSink::new(rt.stdout());
     match run(&rt, rt.alloc(), &mut files, &mut out) {
         Some(()) => ExitCode::SUCCESS,

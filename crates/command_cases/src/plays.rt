@@ -2,6 +2,7 @@
 ghost use Rattle.std.specs.Prelude.{◌≡◌, true, [], IfSome};
 ghost use Rattle.memory_ports.specs.Scripts.{is_valid};
 
+use crate::beside::CaseFiles;
 use crate::cases::{Case, Side};
 use crate::gates::HoldGate;
 use crate::tells::{Ended, Manner, tell};
@@ -27,7 +28,7 @@ pub(crate) fn play<R: Threads + Wait + Clock + Sync, F: Files, O: Sink>(
     rt: &R,
     alloc: Global,
     case: &mut Case,
-    files: &mut F,
+    files: &mut CaseFiles<F>,
     out: &mut O,
 ) -> Option<()> {
     let mut ports = three(alloc, case)?;
@@ -44,13 +45,14 @@ fn play_on<R: Threads + Wait + Clock + Sync, F: Files, O: Sink>(
     alloc: Global,
     case: &mut Case,
     ports: &mut ThreePorts<MemPorts, NoBell>,
-    files: &mut F,
+    files: &mut CaseFiles<F>,
     out: &mut O,
 ) -> Option<()> {
     let mut put = MemSink::new(alloc, ROOM, taken(alloc, &mut case.outs)).ok()?;
-    let mut err = MemSink::new(alloc, 1_000, Vec::new(alloc)).ok()?;
+    let mut err = MemSink::new(alloc, 1_000, taken(alloc, &mut case.errs)).ok()?;
     let store = store_of(alloc, case)?;
     let gate = HoldGate::new(rt, replace(&mut case.holds, Vec::new(alloc)));
+    files.fail(taken(alloc, &mut case.reads));
     let end = farm_main(
         rt,
         alloc,
@@ -62,6 +64,7 @@ fn play_on<R: Threads + Wait + Clock + Sync, F: Files, O: Sink>(
         ports,
         &gate,
     );
+    files.fail(Vec::new(alloc));
     let is_late = gate.is_late();
     let is_unheld = gate.is_unheld();
     drop(gate);
@@ -71,6 +74,8 @@ fn play_on<R: Threads + Wait + Clock + Sync, F: Files, O: Sink>(
         fronts,
     } = end;
     let (left, mut store) = what_is_left(left);
+    let manner = Manner::of(case);
+    let like = replace(&mut case.like, Vec::new(alloc));
     let ended = Ended {
         status,
         is_late,
@@ -79,8 +84,10 @@ fn play_on<R: Threads + Wait + Clock + Sync, F: Files, O: Sink>(
         fronts: fronts.as_slice(),
         put: put.bytes(),
         err: err.bytes(),
+        like: like.as_slice(),
     };
-    let told = tell(alloc, Manner::of(case), ended, ports, &mut store, out);
+    let told = tell(alloc, manner, ended, ports, &mut store, out);
+    drop(like);
     drop(store);
     drop(fronts);
     told

@@ -1,6 +1,7 @@
 //! Calls of the farm with `serve` over ports, a store and sinks in memory. The list says what the words are, what
 //! happens on the three ports, which drawings are held and what fails; of each case stands how the call ended, what it
 //! put, what was sent on each connection and what was not taken.
+use crate::beside::CaseFiles;
 use crate::cases::Case;
 use crate::plays::play;
 use farm_base::{Files, Sink};
@@ -17,7 +18,7 @@ pub(crate) fn run_serves<R: Threads + Wait + Clock + Sync, F: Files, O: Sink>(
     rt: &R,
     alloc: Global,
     list: &str,
-    files: &mut F,
+    files: &mut CaseFiles<F>,
     out: &mut O,
 ) -> Option<()> {
     let cases = files.read(alloc, list).ok()?;
@@ -33,7 +34,7 @@ fn play_all<R: Threads + Wait + Clock + Sync, F: Files, O: Sink>(
     alloc: Global,
     text: &str,
     case: &mut Case,
-    files: &mut F,
+    files: &mut CaseFiles<F>,
     out: &mut O,
 ) -> Option<()> {
     for line in text.lines() {

@@ -63,6 +63,8 @@ pub struct Ended<'a> {
     pub fronts: &'a [FrontDone],
     pub put: &'a [u8],
     pub err: &'a [u8],
+    /// What is put is told beside this.
+    pub like: &'a [u8],
 }
 
 /// Puts on `out` how the call ended, what it put on its own sinks, and of each front how it ended, what was not taken
@@ -75,8 +77,11 @@ pub(crate) fn tell<O: Sink>(
     store: &mut MemStore,
     out: &mut O,
 ) -> Option<()> {
-    if manner.telling == Telling::Command {
-        return tell_command(alloc, ended, out);
+    match manner.telling {
+        Telling::Command => return tell_command(alloc, ended, out),
+        Telling::LikeOut => return tell_out(alloc, ended, out),
+        Telling::LikeErr => return tell_err(alloc, ended, out),
+        Telling::All | Telling::Lengths | Telling::Status => {}
     }
     put_status(alloc, ended, out)?;
     if ended.is_late {
@@ -115,6 +120,32 @@ fn tell_command<O: Sink>(alloc: Global, ended: Ended<'_>, out: &mut O) -> Option
     put_output(alloc, ended.put, out)?;
     out.put(ended.err).ok()?;
     put_status(alloc, ended, out)
+}
+
+fn tell_out<O: Sink>(alloc: Global, ended: Ended<'_>, out: &mut O) -> Option<()> {
+    put_status(alloc, ended, out)?;
+    let how = likeness(ended.put, ended.like);
+    put_text(format!(in alloc; "out: {how}\n").ok()?, out)?;
+    out.put(ended.err).ok()
+}
+
+fn tell_err<O: Sink>(alloc: Global, ended: Ended<'_>, out: &mut O) -> Option<()> {
+    put_status(alloc, ended, out)?;
+    out.put(ended.put).ok()?;
+    let how = likeness(ended.err, ended.like);
+    put_text(format!(in alloc; "err: {how}\n").ok()?, out)
+}
+
+fn likeness(put: &[u8], like: &[u8]) -> &'static str {
+    if put == like {
+        "the same"
+    } else if like.starts_with(put) {
+        "a front"
+    } else if put.starts_with(like) {
+        "more"
+    } else {
+        "another"
+    }
 }
 
 fn put_output<O: Sink>(alloc: Global, bytes: &[u8], out: &mut O) -> Option<()> {

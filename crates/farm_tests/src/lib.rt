@@ -1,11 +1,12 @@
-//! Tests of single crates by their public calls, some on threads, and of the top call over files and sinks in memory
-//! that fail, and on sockets. They stand here and not beside what they call, since a crate with tests of its own is
-//! proved twice, and in one crate, since a second one would load all that it stands on once more.
+//! Tests of single crates by their public calls, some on threads. They stand here and not beside what they call, since a
+//! crate with tests of its own is proved twice, and in one crate, since a second one would load all that it stands on
+//! once more. None makes the top call, whose code would be loaded and compiled for it once more.
 //!
 //! Among them are drawings that no command reaches: a metatile's tiles in their places, one of very many points, and a
 //! map whose grids are not bound; the bits of a mask; an update of very many ids, and one of a layer of very many
 //! features; the marks that a rectangle makes dirty; and values that were worked out by hand. The tiles that a command
-//! draws are those of the program `command_cases`.
+//! draws are those of the program `command_cases`, and so are its calls of which reads or puts fail; the farm on real
+//! sockets is asked by `.ci/sockets.py`.
 #![tactic(auto)]
 
 #[cfg(test)]
@@ -13,15 +14,11 @@ mod alarms;
 #[cfg(test)]
 mod barrier;
 #[cfg(test)]
-mod call;
-#[cfg(test)]
 mod cells;
 #[cfg(test)]
 mod counter;
 #[cfg(test)]
 mod drawings;
-#[cfg(test)]
-mod failing;
 #[cfg(test)]
 mod marks;
 #[cfg(test)]
@@ -42,10 +39,6 @@ mod rare;
 mod rows;
 #[cfg(test)]
 mod scripted;
-#[cfg(test)]
-mod slow_gate;
-#[cfg(test)]
-mod sockets;
 #[cfg(test)]
 mod stores;
 #[cfg(test)]

@@ -2,7 +2,7 @@
 ghost use Rattle.std.specs.Prelude.{IfSome};
 ghost use Rattle.farm_plan.specs.Plans.{IsPlan};
 
-use crate::call::files_of;
+use farm_base::{Bytes, MemFiles, NoMemory, Text};
 use farm_files::{ScriptInputs, script_files};
 use std::alloc::Global;
 
@@ -20,11 +20,19 @@ const FILES: [(&str, &[u8]); 4] = [
     ),
 ];
 
+fn files(alloc: Global) -> Result<MemFiles, NoMemory> {
+    let mut files = Vec::new(alloc);
+    for (name, bytes) in FILES {
+        files.push((Text::of(alloc, name)?, Bytes::of(alloc, bytes)?))?;
+    }
+    MemFiles::new(alloc, files, Vec::new(alloc))
+}
+
 /// The plan and the script. None where a file is refused, or memory was wanting.
 pub(crate) fn inputs(alloc: Global) -> Option<ScriptInputs>
     ensures { IfSome result (λ s. IsPlan s.inputs.plan) }
 {
-    let mut files = files_of(alloc, FILES.as_slice(), &[]).ok()?;
+    let mut files = files(alloc).ok()?;
     let inputs = script_files(alloc, &mut files, "C", "T");
     drop(files);
     inputs.ok()
