@@ -11,3 +11,4 @@ pub mod Pixels
 pub mod Runs
 pub mod Skipping
 pub mod Steps
+pub mod Tables
