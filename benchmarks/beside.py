@@ -114,6 +114,54 @@ def wound_line():
     return {"all": [(0, "lines", [line])]}
 
 
+def tracks(count, points):
+    """Wandering tracks in the metatile of zoom 14, each of so many points a tenth of a pixel apart."""
+
+    def made():
+        west, north, side, pixel = metatile(14, 2**13, 2**13)
+        draw, lines = random.Random(11), []
+        for _ in range(count):
+            x, y, turn, line = west + draw.randrange(side), north + draw.randrange(side), draw.random() * 2 * math.pi, []
+            for _ in range(points):
+                turn += (draw.random() - 0.5) * 0.1
+                x, y = x + pixel / 10 * math.cos(turn), y + pixel / 10 * math.sin(turn)
+                line.append([int(x), int(y)])
+            lines.append((0, "lines", [line]))
+        return {"all": lines}
+
+    return made
+
+
+def borders(count, points):
+    """Borders of countries: rough rings over the metatile of zoom 5 at the middle, most of them seen from far away."""
+
+    def made():
+        west, north, side, _ = metatile(5, 2**4, 2**4)
+        draw, lines = random.Random(12), []
+        for _ in range(count):
+            x, y, far, line = west + draw.randrange(side), north + draw.randrange(side), side * (0.02 + 0.1 * draw.random()), []
+            rough = [draw.random() * 2 * math.pi for _ in range(8)]
+            for k in range(points):
+                turn = 2 * math.pi * k / (points - 1)
+                radius = far * (1 + sum(0.3 / (n + 1) * math.sin((3 * n + 2) * turn + it) for n, it in enumerate(rough)) + 0.01 * draw.random())
+                line.append([int(min(WORLD - 1, max(0, x + radius * math.cos(turn)))), int(min(WORLD - 1, max(0, y + radius * math.sin(turn))))])
+            lines.append((0, "lines", [line]))
+        return {"all": lines}
+
+    return made
+
+
+def rivers(count, points):
+    """Winding lines that begin in the metatile of zoom 14 and leave it, so that most of each lies outside."""
+
+    def made():
+        west, north, side, pixel = metatile(14, 2**13, 2**13)
+        draw = random.Random(13)
+        return {"all": [(0, "lines", [along(draw, west + draw.randrange(side), north + draw.randrange(side), 4 * pixel, points)]) for _ in range(count)]}
+
+    return made
+
+
 def across():
     """Straight lines from one side of the metatile of zoom 14 to the other."""
     west, north, side, _ = metatile(14, 2**13, 2**13)
@@ -293,6 +341,11 @@ CASES = {
     "lines": (strokes(5000, 32, 20), one(stroke("#336699", 8, "round")), [14], HERE),
     "wide": (strokes(1000, 64, 20), one(stroke("#336699", 64, "round")), [14], HERE),
     "wound": (wound_line, one(stroke("#336699", 32, "round")), [14], HERE),
+    "spiral": (wound_line, one(stroke("#336699", 32, "round", 0.5)), [14], HERE),
+    "tracks": (tracks(60, 20000), one(stroke("#336699", 3, "round", 0.6)), [14], HERE),
+    "tracks_opaque": (tracks(60, 20000), one(stroke("#336699", 3, "round")), [14], HERE),
+    "borders": (borders(200, 3000), one(stroke("#663399", 6, "round", 0.4)), [5, 8, 11], HERE),
+    "rivers": (rivers(20, 20000), one(stroke("#336699", 4, "round", 0.5)), [14, 18], HERE),
     "short": (strokes(50000, 8, 2), one(stroke("#336699", 1)), [14], HERE),
     "marks": (spots(60000), one(mark("#336699", 6)), [14], HERE),
     "large_marks": (spots(20000), one(mark("#336699", 32)), [14], HERE),

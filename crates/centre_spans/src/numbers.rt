@@ -1,6 +1,8 @@
 //! Whole numbers: distances and roots.
 ghost use Rattle.std.specs.Prelude.{◌≡◌, ℕ, ◌+◌, ◌-◌, ◌*◌, ◌/◌, ◌%◌, ◌^◌, ◌<◌, ◌≤◌, max, min, true, nat_le};
 
+use std::num::saturating_f64_to_u64;
+
 /// How far two numbers are apart.
 pub fn apart(m: u64, n: u64) -> u64
     ensures { result ≡ m - n + (n - m) }
@@ -9,52 +11,53 @@ pub fn apart(m: u64, n: u64) -> u64
 }
 
 /// The root of a number, rounded down: the numbers up to it are those whose square is at most `n`.
+///
+/// A float's root is it, but for a number that is long or next to a square: then a step of Newton's is taken from there.
+/// Each guess is tested in whole numbers, so nothing rests on floats.
 #[tactic(auto, using(crate::proofs::Roots::root_is))]
 pub fn root(n: u128) -> u64
     ensures low { result * result ≤ n }
     ensures is { (d : ℕ) → nat_le d result ≡ nat_le (d * d) n }
 {
-    if n < 1 << 64 {
-        short_root(n as u64)
-    } else {
-        n.isqrt() as u64
+    let guess = float_root(n);
+    if is_root(guess, n) {
+        return guess;
     }
-}
-
-// The root of a short number, by Newton's steps: from a first guess that is near, each step doubles the digits that
-// are right, and a guess is taken once it is the root. It is after three or four steps.
-#[tactic(auto, using(crate::proofs::Roots::root_is))]
-fn short_root(n: u64) -> u64
-    ensures low { result * result ≤ n }
-    ensures is { (d : ℕ) → nat_le d result ≡ nat_le (d * d) n }
-{
-    let mut guess = first_guess(n);
-    for _step in 0..5 {
-        if is_root(guess, n) {
-            return guess;
-        }
-        guess = halfway(guess, n / guess).max(1);
+    let nearer = halfway(guess, quotient(n, guess));
+    if is_root(nearer, n) {
+        return nearer;
     }
-    n.isqrt()
+    n.isqrt() as u64
 }
 
 fn halfway(m: u64, n: u64) -> u64 {
     m.min(n) + apart(m, n) / 2
 }
 
-// Where n is m times a power of four, with m from 1 to 4: (m + 2) / 3 times the root of the power, and one more.
-fn first_guess(n: u64) -> u64
-    ensures { 1 ≤ result }
-{
-    let digits = n.max(1).ilog2() / 2;
-    (2 << digits) / 3 + (n >> digits) / 3 + 1
+// At most the greatest number that is short.
+fn quotient(n: u128, divisor: u64) -> u64 {
+    (n / u128::from(divisor.max(1))).min(u128::from(u64::MAX)) as u64
 }
 
-fn is_root(guess: u64, n: u64) -> bool
+fn float_root(n: u128) -> u64 {
+    let low = float_of((n % (1 << 64)) as u64);
+    if n < 1 << 64 {
+        return saturating_f64_to_u64(low.sqrt());
+    }
+    let high = float_of((n >> 64) as u64);
+    saturating_f64_to_u64((high * 18_446_744_073_709_551_616.0 + low).sqrt())
+}
+
+fn float_of(n: u64) -> f64 {
+    f64::from((n >> 32) as u32) * 4_294_967_296.0 + f64::from((n % (1 << 32)) as u32)
+}
+
+fn is_root(guess: u64, n: u128) -> bool
     ensures low { result ≡ true → guess * guess ≤ n }
     ensures high { result ≡ true → n < (guess + 1) * (guess + 1) }
 {
-    guess < 1 << 32 && guess * guess <= n && n - guess * guess <= 2 * guess
+    let square = u128::from(guess) * u128::from(guess);
+    square <= n && n - square <= 2 * u128::from(guess)
 }
 
 /// `2^64` over a number, rounded down, or hardly less: by it a product stands for a division by that number, which

@@ -2,8 +2,9 @@
 use Rattle.std.proofs.Common.{◌≡◌, ◌==◌, ℕ, suc, zero, ◌+◌, ◌-◌, ◌<◌, ◌≤◌, Bool, true, false, not, ◌&&◌, ◌||◌, List, [], ◌∷◌, length, take, drop, get_or, All, refl, ap, sym, subst, ◌∙◌, inl, inr, arith, add-one, drop-cons}
 use Rattle.std.specs.Prelude.{Result, Ok, Err, OnErr, if◌then◌else◌, option_map, unwrap_or}
 use Rattle.std.specs.List.{list_any}
+use Rattle.std.proofs.Math.Bool.{or-false, or_assoc}
 use Rattle.std.proofs.lemmas.Bool.{and_parts, or_cases, or_left, or_right, eqb-true}
-use Rattle.std.proofs.lemmas.List.{take_all, drop_all, length-drop}
+use Rattle.std.proofs.lemmas.List.{drop_all}
 use Rattle.std.proofs.lemmas.List.Elements.{All-cons, All-head, All-tail}
 use Rattle.std.proofs.lemmas.Option.{slice_get-get_or}
 use Rattle.plain_world.specs.declared.world.Point.{Point}
@@ -13,15 +14,38 @@ use Rattle.plain_world.specs.World.{InWorld}
 use Rattle.plain_shapes.specs.Strokes.{is_same, in_body, in_disk, before_start, past_end, line_points, kept_after, on_bodies, on_joins, in_last_disk, past_last, on_caps, on_kept, on_line, on_sides, on_disks, on_ring}
 use Rattle.stroke_core.specs.inner.Parts.{point_at, on_ends, on_long, on_parts}
 
--- one side more
-pub sides_step : (half : ℕ) (before : Point) (ps : List Point) (i : ℕ) (d : Point) → i < length ps → (c : Point)
-    → on_sides half before (drop i ps) c ≡ ((not (is_same before (get_or ps i d)) && in_body half before (get_or ps i d) c) || on_sides half (get_or ps i d) (drop (i + 1) ps) c)
+-- whether the body of the segment from a to b holds c, which has to have some length
+abbrev pub side : ℕ → Point → Point → Point → Bool
+side half a b c = not (is_same a b) && in_body half a b c
+
+sides_step : (half : ℕ) (before : Point) (ps : List Point) (i : ℕ) (d : Point) → i < length ps → (c : Point)
+    → on_sides half before (drop i ps) c ≡ (side half before (get_or ps i d) c || on_sides half (get_or ps i d) (drop (i + 1) ps) c)
 sides_step half before ps i d lt c =
     ap (λ qs. on_sides half before qs c) (drop-cons ps i d lt)
-    ∙ ap (λ k. (not (is_same before (get_or ps i d)) && in_body half before (get_or ps i d) c) || on_sides half (get_or ps i d) (drop k ps) c) (sym (add-one i))
+    ∙ ap (λ k. side half before (get_or ps i d) c || on_sides half (get_or ps i d) (drop k ps) c) (sym (add-one i))
 
-pub sides_none : (half : ℕ) (before : Point) (ps : List Point) (i : ℕ) → length ps ≤ i → (c : Point) → on_sides half before (drop i ps) c ≡ false
-sides_none half before ps i le c = ap (λ qs. on_sides half before qs c) (drop_all i ps le)
+disks_step : (half : ℕ) (ps : List Point) (i : ℕ) (d : Point) → i < length ps → (c : Point)
+    → on_disks half (drop i ps) c ≡ (in_disk half (get_or ps i d) c || on_disks half (drop (i + 1) ps) c)
+disks_step half ps i d lt c =
+    ap (λ qs. on_disks half qs c) (drop-cons ps i d lt)
+    ∙ ap (λ k. in_disk half (get_or ps i d) c || on_disks half (drop k ps) c) (sym (add-one i))
+
+or_paired : (a b c d : Bool) → ((a || b) || (c || d)) ≡ ((a || c) || (b || d))
+or_paired true b c d = refl
+or_paired false true true d = refl
+or_paired false true false d = refl
+or_paired false false c d = refl
+
+-- one side more, and the disk at its end
+pub rounded_step : (half : ℕ) (before : Point) (ps : List Point) (i : ℕ) (d : Point) → i < length ps → (c : Point)
+    → (on_sides half before (drop i ps) c || on_disks half (drop i ps) c)
+    ≡ ((side half before (get_or ps i d) c || in_disk half (get_or ps i d) c) || (on_sides half (get_or ps i d) (drop (i + 1) ps) c || on_disks half (drop (i + 1) ps) c))
+rounded_step half before ps i d lt c =
+    (λ k. sides_step half before ps i d lt c k || disks_step half ps i d lt c k)
+    ∙ or_paired (side half before (get_or ps i d) c) (on_sides half (get_or ps i d) (drop (i + 1) ps) c) (in_disk half (get_or ps i d) c) (on_disks half (drop (i + 1) ps) c)
+
+pub rounded_none : (half : ℕ) (before : Point) (ps : List Point) (i : ℕ) → length ps ≤ i → (c : Point) → (on_sides half before (drop i ps) c || on_disks half (drop i ps) c) ≡ false
+rounded_none half before ps i le c = ap (λ qs. on_sides half before qs c || on_disks half qs c) (drop_all i ps le)
 
 pub any_take : {X : Type 0} (p : X → Bool) (i : ℕ) (xs : List X) → list_any p (take i xs) ≡ true → list_any p xs ≡ true
 any_take p zero [] h = h
@@ -32,16 +56,43 @@ any_take p (suc i) (x ∷ xs) h = elim (or_cases (p x) (list_any p (take i xs)) 
   | inr e ↦ or_right (p x) (list_any p xs) (any_take p i xs e)
 ]
 
--- the slices that the code takes
+-- the last side apart from those before it
+sides_last : (half : ℕ) (a : Point) (ps : List Point) (k : ℕ) (c : Point) → length ps ≡ suc k
+    → on_sides half a ps c ≡ (on_sides half a (take k ps) c || side half (point_at (a ∷ ps) k) (point_at (a ∷ ps) (suc k)) c)
+sides_last half a [] k c e = absurd (omega arith)
+sides_last half a (b ∷ []) zero c e = or-false (side half a b c)
+sides_last half a (b ∷ q ∷ ps) zero c e = absurd (omega arith)
+sides_last half a (b ∷ ps) (suc k) c e =
+    ap (λ t. side half a b c || t) (sides_last half b ps k c (omega arith))
+    ∙ sym (or_assoc (side half a b c) (on_sides half b (take k ps) c) (side half (point_at (b ∷ ps) k) (point_at (b ∷ ps) (suc k)) c))
+
+or_last : (s d b e : Bool) → (((s || d) || b) || e) ≡ (((s || b) || d) || e)
+or_last true d b e = refl
+or_last false true true e = refl
+or_last false true false e = refl
+or_last false false b e = ap (λ t. t || e) (sym (or-false b))
+
+-- the slices that the code takes, and its last side
 pub long_is : (half : ℕ) (cap : LineCap) (ps : List Point) → 2 ≤ length ps → (c : Point)
-    → ((on_sides half (point_at ps 0) (take (length ps - 1) (drop 1 ps)) c || on_disks half (take (length ps - 1 - 1) (drop 1 ps)) c)
+    → (((on_sides half (point_at ps 0) (take (length ps - 1 - 1) (drop 1 ps)) c || on_disks half (take (length ps - 1 - 1) (drop 1 ps)) c)
+    || side half (point_at ps (length ps - 2)) (point_at ps (length ps - 1)) c)
     || on_ends half cap (point_at ps 0) (point_at ps 1) (point_at ps (length ps - 2)) (point_at ps (length ps - 1)) c) ≡ on_long half cap ps c
-long_is half cap ps some c =
-    let ends : Bool = on_ends half cap (point_at ps 0) (point_at ps 1) (point_at ps (length ps - 2)) (point_at ps (length ps - 1)) c in
-    let two : length ps - 1 - 1 ≡ length ps - 2 = omega arith in
-    let all : take (length ps - 1) (drop 1 ps) ≡ drop 1 ps = take_all (length ps - 1) (drop 1 ps) (omega (arith, length-drop 1 ps)) in
-    ap (λ qs. (on_sides half (point_at ps 0) qs c || on_disks half (take (length ps - 1 - 1) (drop 1 ps)) c) || ends) all
-    ∙ ap (λ k. (on_sides half (point_at ps 0) (drop 1 ps) c || on_disks half (take k (drop 1 ps)) c) || ends) two
+long_is half cap [] some c = absurd (omega arith)
+long_is half cap (a ∷ []) some c = absurd (omega arith)
+long_is half cap (a ∷ b ∷ ps) some c =
+    let l : List Point = a ∷ b ∷ ps in
+    let k : ℕ = length ps in
+    let two : length l - 1 - 1 ≡ k = omega arith in
+    let before : length l - 2 ≡ k = omega arith in
+    let last : length l - 1 ≡ suc k = omega arith in
+    let ends : Bool = on_ends half cap a b (point_at l (length l - 2)) (point_at l (length l - 1)) c in
+    let disks : Bool = on_disks half (take k (b ∷ ps)) c in
+    ap (λ n. ((on_sides half a (take n (b ∷ ps)) c || on_disks half (take n (b ∷ ps)) c) || side half (point_at l (length l - 2)) (point_at l (length l - 1)) c) || ends) two
+    ∙ ap (λ n. ((on_sides half a (take k (b ∷ ps)) c || disks) || side half (point_at l n) (point_at l (length l - 1)) c) || ends) before
+    ∙ ap (λ n. ((on_sides half a (take k (b ∷ ps)) c || disks) || side half (point_at l k) (point_at l n) c) || ends) last
+    ∙ or_last (on_sides half a (take k (b ∷ ps)) c) disks (side half (point_at l k) (point_at l (suc k)) c) ends
+    ∙ ap (λ t. (t || disks) || ends) (sym (sides_last half a (b ∷ ps) k c refl))
+    ∙ ap (λ n. (on_sides half a (b ∷ ps) c || on_disks half (take n (b ∷ ps)) c) || ends) (sym before)
 
 pub parts_none : (half : ℕ) (cap : LineCap) (ps : List Point) → length ps ≡ 0 → (c : Point) → on_parts half cap ps c ≡ false
 parts_none half cap [] e c = refl

@@ -1,5 +1,5 @@
 //! Strokes of lines.
-ghost use Rattle.std.specs.Prelude.{◌≡◌, ◌≤◌, ◌<◌, ◌^◌, not, ◌&&◌, length, All, OnOk, OnErr};
+ghost use Rattle.std.specs.Prelude.{◌≡◌, ◌≤◌, ◌<◌, ◌^◌, not, ◌&&◌, ◌||◌, length, All, OnOk, OnErr};
 ghost use Rattle.plain_world.specs.World.{InWorld, IsWindow};
 ghost use Rattle.plain_shapes.specs.inner.Canvas.{SetsSome};
 ghost use Rattle.plain_shapes.specs.Strokes.{is_same, in_body, before_start, past_end, on_sides, on_disks, on_dot, on_line, on_stroke};
@@ -68,38 +68,24 @@ fn mark_end<K: Surface>(half: u32, a: Point, b: Point, w: Window, mask: &mut K)
     mark(&EndCap { of }, w, mask);
 }
 
-/// Covers the pixels of the bodies of the segments from `first` along the points.
-pub fn mark_sides<K: Surface>(half: u32, first: Point, rest: &[Point], w: Window, mask: &mut K)
+/// Covers the pixels of the bodies of the segments from `first` along the points, and of the disks at these points. A
+/// disk is covered right after the body that it lies on, so that what a surface keeps of that one may serve it.
+pub fn mark_rounded<K: Surface>(half: u32, first: Point, rest: &[Point], w: Window, mask: &mut K)
     requires half { half ≤ 2 ^ 31 }
     requires first { InWorld first }
     requires rest { All InWorld rest.now }
     requires window { IsWindow w }
     requires cols { K.cols mask.old ≡ w.cols }
     requires rows { K.rows mask.old ≡ w.rows }
-    ensures marks { Marks K.shows (on_sides half first rest.now) w mask.old mask.new }
+    ensures marks { Marks K.shows (λ c. on_sides half first rest.now c || on_disks half rest.now c) w mask.old mask.new }
     ensures cols { K.cols mask.new ≡ K.cols mask.old }
     ensures rows { K.rows mask.new ≡ K.rows mask.old }
 {
     let mut before = first;
     for p in rest {
         mark_body(half, before, *p, w, mask);
-        before = *p;
-    }
-}
-
-/// Covers the pixels of the disks at the points.
-pub fn mark_disks<K: Surface>(half: u32, points: &[Point], w: Window, mask: &mut K)
-    requires half { half ≤ 2 ^ 31 }
-    requires points { All InWorld points.now }
-    requires window { IsWindow w }
-    requires cols { K.cols mask.old ≡ w.cols }
-    requires rows { K.rows mask.old ≡ w.rows }
-    ensures marks { Marks K.shows (on_disks half points.now) w mask.old mask.new }
-    ensures cols { K.cols mask.new ≡ K.cols mask.old }
-    ensures rows { K.rows mask.new ≡ K.rows mask.old }
-{
-    for p in points {
         mark(&Disk { half, p: *p }, w, mask);
+        before = *p;
     }
 }
 
@@ -168,8 +154,8 @@ fn mark_long<K: Surface>(half: u32, cap: LineCap, ps: &[Point], w: Window, mask:
     ensures rows { K.rows mask.new ≡ K.rows mask.old }
 {
     let n = ps.len();
-    mark_sides(half, ps[0], &ps[1..], w, mask);
-    mark_disks(half, &ps[1..n - 1], w, mask);
+    mark_rounded(half, ps[0], &ps[1..n - 1], w, mask);
+    mark_body(half, ps[n - 2], ps[n - 1], w, mask);
     mark_ends(half, cap, ps[0], ps[1], ps[n - 2], ps[n - 1], w, mask);
 }
 

@@ -4,7 +4,7 @@ ghost use Rattle.plain_world.specs.World.{InWorld, IsWindow};
 ghost use Rattle.plain_shapes.specs.Strokes.{on_ring, on_outline};
 ghost use Rattle.plain_image.specs.Surfaces.{Marks};
 
-use crate::lines::{mark_disks, mark_sides};
+use crate::lines::mark_rounded;
 use farm_base::NoMemory;
 use plain_image::Surface;
 use plain_shapes::Path;
@@ -24,8 +24,7 @@ fn mark_ring<K: Surface>(half: u32, ps: &[Point], w: Window, mask: &mut K)
     if ps.is_empty() {
         return;
     }
-    mark_sides(half, ps[ps.len() - 1], ps, w, mask);
-    mark_disks(half, ps, w, mask);
+    mark_rounded(half, ps[ps.len() - 1], ps, w, mask);
 }
 
 fn stroke_ring<K: Surface>(half: u32, ring: &Path, w: Window, mask: &mut K)

@@ -66,7 +66,7 @@ pub record JoinedTo (pieces kept : List Piece) (last : Piece) (k : ℕ) : Type 0
   pub inside : (cols rows : ℕ) → All (IsPiece cols rows) pieces → All (IsPiece cols rows) kept × IsPiece cols rows last
 
 -- a piece that begins in the last one, or at its end
-merged_has : (j i : ℕ) (last piece : Piece) (end : ℕ) → row_of piece ≡ (row_of last) → start_of last ≤ (start_of piece) → start_of piece ≤ last.end → last.end ≤ end → piece.end ≤ end
+pub merged_has : (j i : ℕ) (last piece : Piece) (end : ℕ) → row_of piece ≡ (row_of last) → start_of last ≤ (start_of piece) → start_of piece ≤ last.end → last.end ≤ end → piece.end ≤ end
     → (end ≡ last.end) ⊎ (end ≡ piece.end) → has j i (record last { end = end }) ≡ (has j i last || has j i piece)
 merged_has j i last piece end row from touches left right which = same_bool _ _ to back
   where

@@ -12,3 +12,4 @@ pub mod Runs
 pub mod Skipping
 pub mod Steps
 pub mod Tables
+pub mod Widening

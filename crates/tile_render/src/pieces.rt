@@ -1,5 +1,5 @@
 //! What the parts of strokes and marks cover, piece by piece, so that a pixel of several parts is painted once.
-ghost use Rattle.std.specs.Prelude.{◌≡◌, ℕ, ◌^◌, ◌<◌, ◌≤◌, ◌&&◌, ◌||◌, nat_eq, nat_le, false, [], All, IfOk, OnOk, IsPermutation};
+ghost use Rattle.std.specs.Prelude.{◌≡◌, ℕ, ◌^◌, ◌<◌, ◌≤◌, ◌&&◌, ◌||◌, nat_eq, nat_le, min, max, true, false, [], length, All, IfOk, OnOk, IsPermutation};
 ghost use Rattle.std.specs.List.Sorted.{IsNonDecreasingBy};
 ghost use Rattle.plain_world.specs.Limits.{most_side};
 ghost use Rattle.tile_render.specs.inner.Pieces.{row_of, start_of, piece_at, IsPiece, has, covered, Apart, place};
@@ -10,6 +10,9 @@ use std::alloc::Global;
 
 // So many pieces are never too many.
 const FEW: usize = 65_536;
+
+// Of so many rows it is kept where their latest pieces stand. A stroke's next part mostly touches its last one.
+const LATEST: usize = 128;
 
 /// Pixels side by side in a row: before the column `end`, and from the column on that is told by the lower 16 digits of
 /// `place`, of which the others tell the row. Their order is that of one number, and they are sorted in half the time
@@ -58,6 +61,9 @@ pub(crate) struct Pieces {
     pub rows: u16,
     pub list: Vec<Piece>,
     pub most: usize,
+    /// For rows by their remainders: at which place of the list the latest piece of the row is likely. No proof rests
+    /// on it.
+    pub latest: [u32; LATEST],
     pub is_short: bool,
 }
 
@@ -75,6 +81,7 @@ pub(crate) fn no_pieces(alloc: Global, cols: u32, rows: u32) -> Pieces
         rows: rows as u16,
         list: Vec::new(alloc),
         most: FEW,
+        latest: [0; LATEST],
         is_short: false,
     }
 }
@@ -91,6 +98,41 @@ fn touches(last: Piece, piece: Piece) -> bool
     ensures { result ≡ (nat_eq (row_of piece) (row_of last) && nat_le (start_of piece) last.end) }
 {
     row_of(piece) == row_of(last) && start_of(piece) <= last.end
+}
+
+// Whether two pieces lie in one row and neither begins past the other's end.
+fn meets(p: Piece, q: Piece) -> bool
+    ensures { result ≡ (nat_eq (row_of p) (row_of q) && (nat_le (start_of p) q.end && nat_le (start_of q) p.end)) }
+{
+    row_of(p) == row_of(q) && start_of(p) <= q.end && start_of(q) <= p.end
+}
+
+// The piece that has the pixels of two that meet.
+fn both(p: Piece, q: Piece) -> Piece
+    ensures { result ≡ record { place = min p.place q.place; end = max p.end q.end } }
+{
+    Piece {
+        place: p.place.min(q.place),
+        end: p.end.max(q.end),
+    }
+}
+
+// Whether the piece there meets another one, and then makes it wider by that one.
+fn widen(pieces: &mut [Piece], at: usize, piece: Piece) -> bool
+    ensures same { result ≡ true → (j i : ℕ) → covered pieces.new j i ≡ (covered pieces.old j i || has j i piece) }
+    ensures inside { (cols rows : ℕ) → All (IsPiece cols rows) pieces.old → IsPiece cols rows piece → All (IsPiece cols rows) pieces.new }
+    ensures others { result ≡ false → pieces.new ≡ pieces.old }
+    ensures count { length pieces.new ≡ length pieces.old }
+{
+    if at >= pieces.len() {
+        return false;
+    }
+    let there = pieces[at];
+    if !meets(there, piece) {
+        return false;
+    }
+    pieces[at] = both(there, piece);
+    true
 }
 
 fn joined(alloc: Global, pieces: &[Piece]) -> Result<Vec<Piece>, NoMemory>
@@ -156,7 +198,12 @@ impl Pieces {
         ensures rows { self.new.rows ≡ self.old.rows }
         ensures short { self.new.is_short ≡ self.old.is_short }
     {
+        let row = row_of(piece) as usize % LATEST;
+        if widen(&mut self.list, self.latest[row] as usize, piece) {
+            return Ok(());
+        }
         self.make_room()?;
+        self.latest[row] = self.list.len().min(u32::MAX as usize) as u32;
         self.list.push(piece)?;
         Ok(())
     }

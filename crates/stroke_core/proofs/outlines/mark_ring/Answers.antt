@@ -1,7 +1,7 @@
 use Rattle.std.proofs.Common.{◌-◌, ◌||◌, length, sym, ◌∙◌}
 use Rattle.std.proofs.lemmas.Bool.{eqb-true, eqb-false}
 use Rattle.plain_shapes.specs.Strokes.{on_sides, on_disks, on_ring}
-use Rattle.plain_image.proofs.Marking.{marks_none, marks_both, marks_same}
+use Rattle.plain_image.proofs.Marking.{marks_none, marks_same}
 use Rattle.stroke_core.specs.inner.Parts.{point_at}
 use Rattle.stroke_core.proofs.Sides.{ring_none, ring_is}
 use Rattle.stroke_core.proofs.outlines.mark_ring.Goals as goal
@@ -14,7 +14,5 @@ returns-then-is_empty-clause-marks g c =
 pub returns-clause-marks : goal.returns-clause-marks
 returns-clause-marks g c =
     let ps = c.args.ps.now in
-    let sides = on_sides c.args.half (point_at ps (length ps - 1)) ps in
-    marks_same g.K.Surface.shows (λ p. sides p || on_disks c.args.half ps p) (λ p. on_ring c.args.half p ps) c.args.w c.args.mask.now c.mark_disks.new.mask
-    (ring_is c.args.half ps (eqb-false _ 0 (sym c.is_empty.ensures ∙ c.if-is_empty.false)))
-    (marks_both g.K.Surface.shows sides (on_disks c.args.half ps) c.args.w c.args.mask.now c.mark_sides.new.mask c.mark_disks.new.mask c.mark_sides.ensures.marks c.mark_disks.ensures.marks)
+    marks_same g.K.Surface.shows (λ p. on_sides c.args.half (point_at ps (length ps - 1)) ps p || on_disks c.args.half ps p) (λ p. on_ring c.args.half p ps) c.args.w c.args.mask.now c.mark_rounded.new.mask
+    (ring_is c.args.half ps (eqb-false _ 0 (sym c.is_empty.ensures ∙ c.if-is_empty.false))) c.mark_rounded.ensures.marks
