@@ -11,4 +11,5 @@ pub mod Pixels
 pub mod Runs
 pub mod Skipping
 pub mod Steps
+pub mod Tables
 pub mod Widening

@@ -1,13 +1,9 @@
 //! Which rules of a style that are at scale draw on an item.
-ghost use Rattle.std.specs.Prelude.{◌≡◌, map, option_map, position};
-ghost use Rattle.plain_filters.specs.Filters.{tree_of};
-ghost use Rattle.plain_drawing.specs.Rules.{filter_holds};
+ghost use Rattle.std.specs.Prelude.{◌≡◌, ◌<◌, map, length, get_or, position, None};
 ghost use Rattle.tile_render.specs.inner.Chosen.{is_chosen, takes};
 
-use farm_base::Attr;
-use filter_expr::holds;
+use filter_expr::FilterTable;
 use plain_drawing::Rule;
-use plain_filters::Expr;
 
 /// Which rules at scale are drawn: the Filter rules whose filter holds, or the ElseFilter rules.
 #[derive(Clone, Copy)]
@@ -16,37 +12,36 @@ pub(crate) enum Choice {
     Fallback,
 }
 
-fn filter_holds(filter: &Option<Expr>, attrs: &[Attr]) -> bool
-    ensures { result ≡ filter_holds attrs.now (option_map tree_of filter.now) }
+// Whether the rule is a Filter rule whose filter, that at this place, holds.
+#[tactic(auto, using(crate::proofs::Tables::held))]
+fn takes(table: &FilterTable<'_>, place: usize, rule: &Rule) -> bool
+    requires place { place < length table.now.filters }
+    requires filter { get_or table.now.filters place None ≡ rule.now.filter }
+    ensures { result ≡ takes table.now.attrs rule.now }
 {
-    match filter {
-        Some(filter) => holds(filter, attrs),
-        None => true,
-    }
+    !rule.else_filter && table.passes(place)
 }
 
-fn takes(rule: &Rule, attrs: &[Attr]) -> bool
-    ensures { result ≡ takes attrs.now rule.now }
-{
-    !rule.else_filter && filter_holds(&rule.filter, attrs)
-}
-
-/// Whether the rule is among those that are drawn.
-pub(crate) fn is_chosen(choice: Choice, rule: &Rule, attrs: &[Attr]) -> bool
-    ensures { result ≡ is_chosen choice attrs.now rule.now }
+/// Whether the rule, whose filter is that at this place, is among those that are drawn.
+pub(crate) fn is_chosen(choice: Choice, table: &FilterTable<'_>, place: usize, rule: &Rule) -> bool
+    requires place { place < length table.now.filters }
+    requires filter { get_or table.now.filters place None ≡ rule.now.filter }
+    ensures { result ≡ is_chosen choice table.now.attrs rule.now }
 {
     match choice {
-        Choice::Matching => takes(rule, attrs),
+        Choice::Matching => takes(table, place, rule),
         Choice::Fallback => rule.else_filter,
     }
 }
 
-/// The place of the first Filter rule among them whose filter holds of the attributes.
-pub(crate) fn first_match(rules: &[&Rule], attrs: &[Attr]) -> Option<usize>
-    ensures { result ≡ position (takes attrs.now) (map (λ r. r.now) rules.now) }
+/// The place of the first Filter rule among them whose filter holds.
+#[tactic(auto, using(crate::proofs::Tables::first_place, crate::proofs::Tables::first_filter))]
+pub(crate) fn first_match(rules: &[&Rule], table: &FilterTable<'_>) -> Option<usize>
+    requires { table.now.filters ≡ map (λ r. r.now.filter) rules.now }
+    ensures { result ≡ position (takes table.now.attrs) (map (λ r. r.now) rules.now) }
 {
     for place in 0..rules.len() {
-        if takes(rules[place], attrs) {
+        if takes(table, place, rules[place]) {
             return Some(place);
         }
     }

@@ -1,10 +1,14 @@
 //! A style at a scale.
-ghost use Rattle.std.specs.Prelude.{◌≡◌, ◌*◌, ◌^◌, ◌<◌, IfOk, map, filter};
+ghost use Rattle.std.specs.Prelude.{◌≡◌, ◌*◌, ◌^◌, ◌<◌, IfOk, [], map, filter, option_map};
+ghost use Rattle.plain_filters.specs.Filters.{tree_of};
 ghost use Rattle.plain_drawing.specs.Rules.{at_scale};
 ghost use Rattle.plain_drawing.specs.Styles.{KeepsRanges};
+ghost use Rattle.tile_render.specs.inner.Chosen.{filters_at};
 
 use farm_base::NoMemory;
+use filter_expr::FilterTable;
 use plain_drawing::{FilterMode, Rule, Style};
+use plain_filters::Expr;
 use scale_rules::active;
 use std::alloc::Global;
 use std::marker::Model;
@@ -63,6 +67,18 @@ fn active_rules<'a>(
     Ok(chosen)
 }
 
+fn filters_of<'a>(alloc: Global, rules: &[&'a Rule]) -> Result<Vec<&'a Option<Expr>>, NoMemory>
+    ensures { IfOk result (λ v. map (λ f. option_map tree_of f.now) v.items
+        ≡ map (λ r. r.now.filter) rules.now) }
+{
+    let mut filters = Vec::new(alloc);
+    for rule in rules {
+        let rule: &'a Rule = *rule;
+        filters.push(&rule.filter)?;
+    }
+    Ok(filters)
+}
+
 impl<'a> ScaledStyle<'a> {
     /// The style at this denominator.
     pub(crate) fn of(
@@ -88,6 +104,14 @@ impl<'a> ScaledStyle<'a> {
             ≡ filter (at_scale self.now.denominator) self.now.style.rules }
     {
         self.rules.as_slice()
+    }
+
+    /// The filters of its rules that are at scale, asked of no attributes.
+    pub(crate) fn filters(&self, alloc: Global) -> Result<FilterTable<'a>, NoMemory>
+        ensures { IfOk result (λ t. t ≡ record { filters = filters_at self.now; attrs = [] }) }
+    {
+        let filters = filters_of(alloc, self.rules.as_slice())?;
+        FilterTable::of(alloc, filters.as_slice())
     }
 
     /// Which of the Filter rules that match are drawn.

@@ -1,8 +1,8 @@
 //! The pass of a style over items, and the rules that each item meets.
-ghost use Rattle.std.specs.Prelude.{◌≡◌, ◌*◌, ◌^◌, ◌<◌, OnOk, fold, map};
+ghost use Rattle.std.specs.Prelude.{◌≡◌, ◌+◌, ◌*◌, ◌^◌, ◌<◌, OnOk, fold, map, drop, length};
 ghost use Rattle.plain_drawing.specs.Drawing.{feature, item_attrs};
 ghost use Rattle.plain_drawing.specs.inner.Pictures.{with_item, with_style};
-ghost use Rattle.tile_render.specs.inner.Chosen.{is_chosen, with_rule, with_chosen};
+ghost use Rattle.tile_render.specs.inner.Chosen.{filters_at, is_chosen, with_rule, with_chosen};
 ghost use Rattle.tile_render.specs.inner.Items.{item_of, items_in};
 ghost use Rattle.tile_render.specs.inner.Nearby.{IsSource, FromData};
 ghost use Rattle.tile_render.specs.inner.Regions.{around};
@@ -16,6 +16,7 @@ use crate::scaled::ScaledStyle;
 use crate::symbolizers::draw_symbolizer;
 use data_versions::LayerView;
 use farm_base::NoMemory;
+use filter_expr::FilterTable;
 use geo_model::Feature;
 use plain_drawing::{FilterMode, Rule, Style};
 use std::alloc::Global;
@@ -38,21 +39,28 @@ fn draw_rule(
     Ok(())
 }
 
+// Draws an item by those of the rules that are chosen. Their filters begin at this place of the table.
+#[tactic(auto, using(crate::proofs::Tables::place_there, crate::proofs::Tables::filter_there))]
 fn draw_rules(
     alloc: Global,
     item: Item<'_>,
     choice: Choice,
+    table: &FilterTable<'_>,
+    begin: usize,
     rules: &[&Rule],
     canvas: &mut Canvas,
 ) -> Result<(), NoMemory>
+    requires room { begin + length rules.now < 2 ^ 64 }
+    requires filters { map (λ r. r.now.filter) rules.now ≡ drop begin table.now.filters }
+    requires attrs { table.now.attrs ≡ item_attrs (item_of item) }
     ensures drawn { OnOk result (canvas.new.image
         ≡ fold (with_chosen canvas.old.window (item_of item.entry) (is_chosen choice
         (item_attrs (item_of item.entry)))) canvas.old.image (map (λ r. r.now) rules.now)) }
     ensures window { canvas.new.window ≡ canvas.old.window }
 {
-    let attrs = item.attrs();
-    for rule in rules {
-        if !is_chosen(choice, rule, attrs) {
+    for number in 0..rules.len() {
+        let rule = rules[number];
+        if !is_chosen(choice, table, begin + number, rule) {
             continue;
         }
         draw_rule(alloc, item, rule, canvas)?;
@@ -62,39 +70,51 @@ fn draw_rules(
 
 // Draws an item by a style: by the Filter rules that are taken, or where none matches by every ElseFilter
 // rule.
-fn draw_item(
+fn draw_item<'a>(
     alloc: Global,
-    scaled: &ScaledStyle<'_>,
-    item: Item<'_>,
+    scaled: &ScaledStyle<'a>,
+    table: &mut FilterTable<'a>,
+    item: Item<'a>,
     canvas: &mut Canvas,
 ) -> Result<(), NoMemory>
+    requires { table.old.filters ≡ filters_at scaled.now }
     ensures drawn { OnOk result (canvas.new.image
         ≡ with_item canvas.old.window scaled.now.denominator scaled.now.style canvas.old.image
         (item_of item.entry)) }
     ensures window { canvas.new.window ≡ canvas.old.window }
+    ensures table { table.new.filters ≡ table.old.filters }
 {
+    table.look(item.attrs());
     let rules = scaled.rules();
-    match first_match(rules, item.attrs()) {
+    match first_match(rules, table) {
         Some(place) => {
             draw_rule(alloc, item, rules[place], canvas)?;
             match scaled.filter_mode() {
                 FilterMode::All => {
                     let rest = &rules[place + 1..];
-                    draw_rules(alloc, item, Choice::Matching, rest, canvas)
+                    draw_rules(
+                        alloc,
+                        item,
+                        Choice::Matching,
+                        table,
+                        place + 1,
+                        rest,
+                        canvas,
+                    )
                 }
                 FilterMode::First => Ok(()),
             }
         }
-        None => draw_rules(alloc, item, Choice::Fallback, rules, canvas),
+        None => draw_rules(alloc, item, Choice::Fallback, table, 0, rules, canvas),
     }
 }
 
 // Draws the features of a layer of data by a style, in order. Those that are too far from the window to
 // paint any of its pixels are passed over.
-fn draw_features(
+fn draw_features<'a>(
     alloc: Global,
-    scaled: &ScaledStyle<'_>,
-    features: &LayerView<'_>,
+    scaled: &ScaledStyle<'a>,
+    features: &LayerView<'a>,
     canvas: &mut Canvas,
 ) -> Result<(), NoMemory>
     ensures drawn { OnOk result (canvas.new.image
@@ -103,18 +123,19 @@ fn draw_features(
     ensures window { canvas.new.window ≡ canvas.old.window }
 {
     scaled.know();
+    let mut table = scaled.filters(alloc)?;
     let near = around(canvas.window());
     let mut walk = features.near(near.west, near.north, near.east, near.south);
     while let Some(feature) = walk.next() {
-        draw_item(alloc, scaled, Item::Feature(feature), canvas)?;
+        draw_item(alloc, scaled, &mut table, Item::Feature(feature), canvas)?;
     }
     Ok(())
 }
 
-fn draw_listed(
+fn draw_listed<'a>(
     alloc: Global,
-    scaled: &ScaledStyle<'_>,
-    features: &[&Feature],
+    scaled: &ScaledStyle<'a>,
+    features: &[&'a Feature],
     canvas: &mut Canvas,
 ) -> Result<(), NoMemory>
     ensures drawn { OnOk result (canvas.new.image
@@ -122,8 +143,12 @@ fn draw_listed(
         canvas.old.image (map feature (map (λ f. f.now) features.now))) }
     ensures window { canvas.new.window ≡ canvas.old.window }
 {
+    if features.is_empty() {
+        return Ok(());
+    }
+    let mut table = scaled.filters(alloc)?;
     for feature in features {
-        draw_item(alloc, scaled, Item::Feature(feature), canvas)?;
+        draw_item(alloc, scaled, &mut table, Item::Feature(feature), canvas)?;
     }
     Ok(())
 }
@@ -131,7 +156,7 @@ fn draw_listed(
 // Draws the features of a layer of data by a style, in order: those that are kept of it, where they are kept.
 fn draw_source<'a>(
     alloc: Global,
-    scaled: &ScaledStyle<'_>,
+    scaled: &ScaledStyle<'a>,
     source: &Source<'a>,
     nearby: &mut NearData<'a>,
     canvas: &mut Canvas,
@@ -161,7 +186,7 @@ fn draw_source<'a>(
 pub(crate) fn draw_style<'a>(
     alloc: Global,
     denominator: u64,
-    style: &Style,
+    style: &'a Style,
     items: &Items<'a>,
     nearby: &mut NearData<'a>,
     canvas: &mut Canvas,
@@ -170,7 +195,7 @@ pub(crate) fn draw_style<'a>(
     requires source { FromData nearby.old.layers items.now }
     requires near { nearby.old.around ≡ around canvas.old.window }
     ensures drawn { OnOk result (canvas.new.image ≡ with_style canvas.old.window denominator
-        (items_in items.now) canvas.old.image style.now) }
+        (items_in items.now) canvas.old.image style.entry.now) }
     ensures window { canvas.new.window ≡ canvas.old.window }
     ensures nearby { nearby.new ≡ nearby.old }
 {
@@ -181,7 +206,8 @@ pub(crate) fn draw_style<'a>(
     match items {
         Items::Raster(grid) => {
             let grid = *grid;
-            draw_item(alloc, &scaled, Item::Raster(grid), canvas)
+            let mut table = scaled.filters(alloc)?;
+            draw_item(alloc, &scaled, &mut table, Item::Raster(grid), canvas)
         }
         Items::Features(source) => draw_source(alloc, &scaled, source, nearby, canvas),
         Items::Nothing => Ok(()),

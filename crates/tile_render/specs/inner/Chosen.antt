@@ -1,10 +1,11 @@
 -- The rules of a style that are chosen for an item, one after another.
-use Rattle.std.specs.Prelude.{ℕ, Bool, not, ◌&&◌, if◌then◌else◌, List, fold}
+use Rattle.std.specs.Prelude.{ℕ, Bool, not, ◌&&◌, if◌then◌else◌, List, fold, map, filter, Option}
 use Rattle.farm_base.specs.declared.Attr.{Attr}
 use Rattle.plain_world.specs.declared.world.Window.{Window}
 use Rattle.plain_drawing.specs.Styles.{Rule, Style}
 use Rattle.plain_shapes.specs.Images.{Pixels}
-use Rattle.plain_drawing.specs.Rules.{filter_holds}
+use Rattle.plain_filters.specs.Filters.{FilterTree}
+use Rattle.plain_drawing.specs.Rules.{at_scale, filter_holds}
 use Rattle.plain_drawing.specs.Drawing.{Item}
 use Rattle.plain_drawing.specs.inner.Pictures.{with_symbolizer}
 use Rattle.tile_render.specs.declared.rules.Choice.{Choice}
@@ -14,6 +15,10 @@ use Rattle.tile_render.specs.declared.rules.Choice.TheVariants.{Matching, Fallba
 pub record Scaled : Type 0 where
   pub style : Style
   pub denominator : ℕ
+
+-- the filters of the rules that are at scale, in order
+abbrev pub filters_at : Scaled → List (Option FilterTree)
+filters_at s = map (λ r. r.filter) (filter (at_scale s.denominator) s.style.rules)
 
 -- a Filter rule whose filter holds
 abbrev pub takes : List Attr → Rule → Bool

@@ -1,5 +1,6 @@
 use Rattle.std.proofs.Common.{◌∙◌, fold, map, refl, ap, sym, subst}
 use Rattle.plain_world.specs.World.{IsWindow}
+use Rattle.filter_expr.specs.Looked.{Asked}
 use Rattle.plain_drawing.specs.Drawing.{feature}
 use Rattle.plain_drawing.specs.inner.Pictures.{with_item}
 use Rattle.data_versions.specs.Near.{all_near}
@@ -15,6 +16,7 @@ loop-feature-init c = record {
       ∙ near_drawn c.args.canvas.now.window c.args.scaled.now.denominator c.args.scaled.now.style c.args.features.now c.args.canvas.now.image
       (subst IsWindow c.window.ensures.value c.window.ensures.valid) c.know.ensures;
   window = refl;
+  table = ap (λ (t : Asked). t.filters) c.in_ok-table.ensures;
 }
 
 pub loop-feature-preserved : goal.loop-feature-preserved
@@ -24,6 +26,7 @@ loop-feature-preserved c = record {
       c.loop-feature.canvas.image c.draw_item.new.canvas.image c.in-Some.ensures c.loop-feature.invariant.window c.in_ok-draw_item.ensures.drawn
       ∙ c.loop-feature.invariant.drawn;
   window = c.draw_item.ensures.window ∙ c.loop-feature.invariant.window;
+  table = c.draw_item.ensures.table ∙ c.loop-feature.invariant.table;
 }
 
 pub returns-clause-drawn : goal.returns-clause-drawn
