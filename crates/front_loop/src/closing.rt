@@ -23,21 +23,10 @@ use farm_history::Conn;
 use port_events::Ports;
 use std::sync::Wait;
 
-fn leaves(disposition: Disposition) -> bool
-    ensures { result ≡ spec.leaves disposition }
-{
-    match disposition {
-        Disposition::Stays => false,
-        Disposition::Leaves(_) => true,
-    }
-}
-
 fn first_leaving<T>(sessions: &[Session<T>]) -> Option<usize>
     ensures { result ≡ position (λ (s : Session T). spec.leaves s.disposition) sessions.now }
 {
-    sessions
-        .iter()
-        .position(|session| leaves(session.disposition))
+    sessions.iter().position(|session| matches!(session.disposition, Disposition::Leaves(_)))
 }
 
 // A session that leaves: its place, its connection, and why.
@@ -54,20 +43,13 @@ fn leaving<T>(sessions: &[Session<T>]) -> Option<(usize, u32, Reason)>
     }
 }
 
-// Whether the connection is still open in the ports.
-fn is_open(why: Reason) -> bool
-    ensures { result ≡ is_up (disposition.Leaves why) }
-{
-    !matches!(why, Reason::Lost | Reason::SendFailed)
-}
-
 // Closes the connection, if it is still open.
 fn shut<P: Ports>(ports: &mut P, conn: u32, why: Reason)
     requires { is_up (disposition.Leaves why) ≡ true → IsOpen conn (P.state ports.old).told }
     ensures told { Shuts conn why (P.state ports.old).told (P.state ports.new).told }
     ensures count { (P.state ports.new).faults ≡ (P.state ports.old).faults }
 {
-    if is_open(why) {
+    if !matches!(why, Reason::Lost | Reason::SendFailed) {
         ports.close(conn);
     }
 }
