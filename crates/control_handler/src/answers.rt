@@ -33,15 +33,6 @@ fn update_text(alloc: Global, answer: Updated) -> Result<Text, NoMemory>
     }
 }
 
-fn restyle_text(alloc: Global, answer: Restyled) -> Result<Text, NoMemory>
-    ensures { IfOk result (λ t. t ≡ spec.restyle_text answer) }
-{
-    match answer {
-        Restyled::Styled(count) => restyle_line(alloc, Restyled::Styled(count)),
-        Restyled::NoRestyle => Text::of(alloc, "no restyle\n"),
-    }
-}
-
 fn renew_text(alloc: Global, answer: Renewed) -> Result<Text, NoMemory>
     ensures { IfOk result (λ t. spec.renew_text answer ≡ Some t) }
 {
@@ -131,7 +122,10 @@ fn say_made(response: &mut Vec<u8>, text: Result<Text, NoMemory>) -> Disposition
 pub fn say_restyle(alloc: Global, answer: Restyled, response: &mut Vec<u8>) -> Disposition
     ensures { Says (spec.restyle_text answer) response.old.items response.new.items result }
 {
-    say_made(response, restyle_text(alloc, answer))
+    match answer {
+        Restyled::Styled(count) => say_made(response, restyle_line(alloc, Restyled::Styled(count))),
+        Restyled::NoRestyle => say(response, "no restyle\n"),
+    }
 }
 
 /// Says the farm's counts.
