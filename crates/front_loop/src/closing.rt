@@ -26,9 +26,7 @@ use std::sync::Wait;
 fn first_leaving<T>(sessions: &[Session<T>]) -> Option<usize>
     ensures { result ≡ position (λ (s : Session T). spec.leaves s.disposition) sessions.now }
 {
-    sessions
-        .iter()
-        .position(|session| matches!(session.disposition, Disposition::Leaves(_)))
+    sessions.iter().position(|session| matches!(session.disposition, Disposition::Leaves(_)))
 }
 
 // A session that leaves: its place, its connection, and why.
