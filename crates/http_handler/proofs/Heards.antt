@@ -16,7 +16,7 @@ use Rattle.http_handler.specs.declared.acts.Act.{Act}
 use Rattle.http_handler.specs.declared.conn_states.ConnState.{ConnState}
 use Rattle.http_handler.specs.ConnStates.{is_reading, is_answered, waits_in}
 use Rattle.http_handler.specs.Tiles.{BytesAsk, Wants, answers, http_asks, tile_rules, Knows}
-use Rattle.http_handler.specs.Steps.{want, tile_entries, whole_act, is_answer, starves_act, WhyOf, IsIdle, DidHttpAsk, DoesHttpAsk}
+use Rattle.http_handler.specs.inner.Steps.{want, tile_entries, whole_act, is_answer, starves_act, WhyOf, IsIdle, DidHttpAsk, DoesHttpAsk}
 use Rattle.http_handler.proofs.Wishes.{asked_is, asks_stay, no_both, open_all, reading_unanswered}
 
 module _ (front : ℕ) (maps : List ℕ → Option ℕ) where

@@ -11,7 +11,7 @@ use Rattle.farm_history.specs.Lists.{Each}
 use Rattle.http_handler.specs.declared.acts.Act.{Act}
 use Rattle.http_handler.specs.declared.acts.Act.TheVariants as act
 use Rattle.http_handler.specs.Tiles.{fits_behind}
-use Rattle.http_handler.specs.Steps.{tile_entries}
+use Rattle.http_handler.specs.inner.Steps.{tile_entries}
 
 module _ (P : Entry → Type 0) (fetches : (s : Spot) (f : Fetched) → P (Fetch s f)) where
   pub each_entry : ((c : Conn) (d : Cmd) (s : Spot) (a : AskAnswer) → P (Ask c d s a)) → ((s : Spot) (l : Looked) → P (Look s l))

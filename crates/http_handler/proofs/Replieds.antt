@@ -16,7 +16,7 @@ use Rattle.http_handler.specs.declared.conn_states.ConnState.{ConnState}
 use Rattle.http_handler.specs.declared.conn_states.Stage.TheVariants.{Answered}
 use Rattle.http_handler.specs.ConnStates.{is_reading, is_answered, waits_in, spot_at}
 use Rattle.http_handler.specs.Tiles.{fits_behind, found_no_memory, waiting_ask, tile_rules, Knows}
-use Rattle.http_handler.specs.Steps.{WhyOf, IsIdle, DidFetch, Fetches}
+use Rattle.http_handler.specs.inner.Steps.{WhyOf, IsIdle, DidFetch, Fetches}
 use Rattle.http_handler.proofs.Wishes.{no_both, same_self, unless_other, unless_that, waiting_read}
 
 module _ (front : ℕ) (maps : List ℕ → Option ℕ) where

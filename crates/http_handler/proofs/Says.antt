@@ -23,7 +23,7 @@ use Rattle.http_handler.specs.declared.conn_states.Stage.TheVariants.{Waiting, A
 use Rattle.http_handler.specs.ConnStates.{is_reading, is_answered, waits_in}
 use Rattle.http_handler.specs.Tiles.{refusal}
 use Rattle.farm_history.specs.Past.{number_in}
-use Rattle.http_handler.specs.Steps.{want, tile_entries, fits_act, whole_act, answer_of, is_answer, waits_by, starves_act, WhyOf, Says, Fetches, DoesHttpAsk}
+use Rattle.http_handler.specs.inner.Steps.{want, tile_entries, fits_act, whole_act, answer_of, is_answer, waits_by, starves_act, WhyOf, Says, Fetches, DoesHttpAsk}
 
 said_all : (text response : List ℕ) (disposition : Disposition) → disposition ≡ Stays → response ≡ text → Says text response disposition
 said_all text response disposition e is = record { why = subst (λ (f : Disposition). WhyOf false f) (sym e) refl; response_is = λ k. is }

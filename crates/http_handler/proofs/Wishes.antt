@@ -17,7 +17,7 @@ use Rattle.http_handler.specs.ConnStates.{is_reading, is_answered, waits_in, spo
 use Rattle.std.specs.Prelude.{◌==◌}
 use Rattle.std.specs.Option.{is_some, option_eq}
 use Rattle.http_handler.specs.Tiles.{GetsSpot, http_ask_of, BytesAsk, http_asks, tile_rules}
-use Rattle.http_handler.specs.Steps.{same_spot, want}
+use Rattle.http_handler.specs.inner.Steps.{same_spot, want}
 
 -- no test is passed and failed
 pub no_both : (b : Bool) → b ≡ true → b ≡ false → ⊥

@@ -1,3 +1,3 @@
 pub mod ConnStates
 pub mod Tiles
-pub mod Steps
+pub mod inner

@@ -6,7 +6,7 @@ ghost use Rattle.front_loop.specs.Calls.{SameSeat};
 ghost use Rattle.front_loop.specs.Front.{disposition_of};
 ghost use Rattle.http_handler.specs.Tiles as spec;
 ghost use Rattle.tile_http.specs.Answers.{fault_answer};
-ghost use Rattle.http_handler.specs.Steps.{Finds, Fetches, DoesHttpAsk, Says};
+ghost use Rattle.http_handler.specs.inner.Steps.{Finds, Fetches, DoesHttpAsk, Says};
 ghost use Rattle.http_handler.specs.declared.acts.HttpAsk.TheVariants as http_ask;
 
 use crate::acts::HttpAsk;
