@@ -5,8 +5,8 @@
 //! Among them are drawings that no command reaches: a metatile's tiles in their places, one of very many points, and a
 //! map whose grids are not bound; the bits of a mask; an update of very many ids, and one of a layer of very many
 //! features; the marks that a rectangle makes dirty; and values that were worked out by hand. The tiles that a command
-//! draws are those of the program `command_cases`, and so are its calls of which reads or puts fail; the farm on real
-//! sockets is asked by `.ci/sockets.py`.
+//! draws are those of the program `command_cases`, and so are its calls of which reads or puts fail. The renderd front is
+//! asked over loopback by a client in a thread; the whole farm on real sockets by `.ci/sockets.py`.
 #![tactic(auto)]
 
 #[cfg(test)]
@@ -39,6 +39,8 @@ mod rare;
 mod rows;
 #[cfg(test)]
 mod scripted;
+#[cfg(test)]
+mod sockets;
 #[cfg(test)]
 mod stores;
 #[cfg(test)]

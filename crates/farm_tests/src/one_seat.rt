@@ -160,7 +160,7 @@ fn go_on<R: Wait + Abort, D: TileStore>(
 }
 
 #[tactic(auto, using(farm_shared::proofs::Shares::is_short))]
-fn share(alloc: Global, plan: FarmPlan) -> Option<(SharedFarm<MemStore>, Seat<MemStore>)>
+pub(crate) fn share(alloc: Global, plan: FarmPlan) -> Option<(SharedFarm<MemStore>, Seat<MemStore>)>
     requires { IsPlan plan }
     ensures { IfSome result (λ made. IsSeatOf made.0 made.1 × (made.1 ≡ first_of made.0)) }
 {
