@@ -40,14 +40,6 @@ module _ {B A : Type 0} (f : B → List A) where
 
   -- ---- the places at which parts start
 
-  pub some_start : (count : ℕ) (starts : List ℕ) (ps : List B) (i : ℕ) → IsLaid f starts count ps → i < count → 0 < length starts
-  some_start count starts [] i is small = absurd (omega (arith, is.counted))
-  some_start count starts (p ∷ ps) i is small = omega (arith, is.long)
-
-  pub first_start : (count : ℕ) (starts : List ℕ) (ps : List B) (i : ℕ) → IsLaid f starts count ps → i < count → get_or starts 0 0 ≤ i
-  first_start count starts [] i is small = absurd (omega (arith, is.counted))
-  first_start count starts (p ∷ ps) i is small = omega (arith, is.each 0 (omega arith))
-
   starts_push : (starts : List ℕ) (count : ℕ) (ps : List B) (p : B) → IsLaid f starts count ps
       → IsLaid f (starts ++ count ∷ []) (count + length (f p)) (ps ++ p ∷ [])
   starts_push starts count ps p is =
@@ -121,9 +113,6 @@ module _ {B A : Type 0} (f : B → List A) where
   abbrev pub NoneBefore : (A → Bool) → List B → ℕ → ℕ → Type 0
   NoneBefore p ps from k = (i : ℕ) (d : A) → from ≤ i → i < length (flat_map f (take k ps)) → p (get_or (flat_map f ps) i d) ≡ false
 
-  pub none_first : (p : A → Bool) (ps : List B) (from k start : ℕ) → start ≡ length (flat_map f (take k ps)) → start ≤ from → NoneBefore p ps from k
-  none_first p ps from k start is begun i d after before = absurd (omega arith)
-
   pub none_more : (p : A → Bool) (ps : List B) (from k : ℕ) (b : B) → k < length ps → b ≡ get_or ps k b → All (λ x. p x ≡ false) (f b)
       → NoneBefore p ps from k → NoneBefore p ps from (k + 1)
   none_more p ps from k b small at none before i d after within = elim (cases_lt i (length (flat_map f (take k ps)))) [
@@ -169,18 +158,6 @@ module _ {B A : Type 0} (f : B → List A) where
         within = λ _. omega (arith, within, size, laid_within ps (k + 1));
       }
 
-  pub part_none : (p : A → Bool) (ps : List B) (from k count : ℕ) → length ps ≤ k → count ≡ length (flat_map f ps) → from < count → NoneBefore p ps from k
-      → IsPart p from count [] (flat_map f ps)
-  part_none p ps from k count past counted small before =
-      let all : flat_map f (take k ps) ≡ flat_map f ps = ap (flat_map f) (take_all k ps past) in
-      record {
-        since = omega arith;
-        none = λ i d after early inside. before i d after (omega (arith, ap length all));
-        side = ap (λ (n : ℕ). drop n (flat_map f ps)) (omega arith);
-        on = λ _. omega arith;
-        within = λ _. omega (arith, counted);
-      }
-
 -- ---- parts
 
 two_steps : (o : Option ℕ) (a b c : ℕ) → a + b ≡ c → option_map (λ k. a + k) (option_map (λ k. b + k) o) ≡ option_map (λ k. c + k) o
@@ -188,16 +165,6 @@ two_steps None a b c e = refl
 two_steps (Some k) a b c e = ap Some (omega arith)
 
 module _ {A : Type 0} (p : A → Bool) (all : List A) where
-  -- past the end nothing is left
-  pub part_past : (from : ℕ) → length all ≤ from → IsPart p from from [] all
-  part_past from past = record {
-    since = omega arith;
-    none = λ i d after early inside. absurd (omega arith);
-    side = ap (λ (n : ℕ). drop n all) (omega arith);
-    on = λ small. absurd (omega arith);
-    within = λ h. omega (arith, h);
-  }
-
   -- all that is left
   pub part_left : (from : ℕ) → from < length all → IsPart p from from (drop from all) all
   part_left from small = record {
@@ -249,6 +216,3 @@ module _ {A : Type 0} (p : A → Bool) (all : List A) where
       at_part from at part small is ∙ ap (λ xs. option_map (λ k. at + k) (position p xs)) is.side
       ∙ ap (λ o. option_map (λ k. at + k) o) (found_right p part (drop (at + length part) all) none)
       ∙ two_steps (position p (drop (at + length part) all)) at (length part) (at + length part) refl
-
-  pub no_answer : (from : ℕ) → length all ≤ from → next_answer p all from ≡ None
-  no_answer from past = ap (λ xs. option_map (λ k. from + k) (position p xs)) (drop_all from all past)

@@ -160,12 +160,6 @@ module _ (old new : BTreeMap ℕ (Option (Bor Feature))) (k : ℕ) (v : Option (
       at_end n [] e = let here : n ≡ k = omega (arith, e) in rw (ap (put_at new.entries) here ∙ lies) refl
       at_end n (s ∷ slots) e = rw (stays n (λ h. absurd (omega (arith, e, h))), at_end (suc n) slots (omega (arith, e))) refl
 
-  pub pushed_within : (features : List Feature) (count : ℕ) → IsPutWithin old.entries features count → k ≡ count → IsPutWithin new.entries features (count + 1)
-  pushed_within features count is last = record {
-    enough = omega (arith, is.enough);
-    none = λ n past. stays n (λ e. absurd (omega (arith, e, last, past))) ∙ is.none n (omega (arith, past));
-  }
-
 -- ---- what stands in all slots is what the edits leave
 
 -- no number is below n
