@@ -1,6 +1,5 @@
 -- A changed run by its places, and two that adjoin.
-use Rattle.std.proofs.Common.{◌≡◌, ℕ, suc, zero, ◌+◌, ◌-◌, ◌<◌, ◌≤◌, List, [], ◌∷◌, ◌++◌, length, take, drop, map, get_or, set, Some, refl, ap, sym, ◌∙◌, inl, inr, arith}
-use Rattle.std.specs.Prelude.{slice_get}
+use Rattle.std.proofs.Common.{◌≡◌, ℕ, suc, zero, ◌+◌, ◌-◌, ◌<◌, ◌≤◌, List, [], ◌∷◌, ◌++◌, length, take, drop, map, get_or, set, refl, ap, sym, ◌∙◌, inl, inr, arith}
 use Rattle.std.proofs.lemmas.Bool.{cases_lt}
 use Rattle.std.proofs.lemmas.List.{same_lists}
 use Rattle.plain_image.specs.Runs.{run_changed}
@@ -68,22 +67,3 @@ run_of_one f zero [] d = refl
 run_of_one f zero (x ∷ xs) d = refl
 run_of_one f (suc k) [] d = refl
 run_of_one f (suc k) (x ∷ xs) d = ap (λ ys. x ∷ ys) (run_of_one f k xs d)
-
-first_taken : {X : Type 0} (n : ℕ) (xs : List X) (x : X) → slice_get xs n ≡ Some x → take (suc n) xs ≡ take n xs ++ x ∷ []
-first_taken zero [] x h = absurd (cc)
-first_taken (suc n) [] x h = absurd (cc)
-first_taken zero (y ∷ ys) x h = let e : y ≡ x = cc in ap (λ z. z ∷ []) e
-first_taken (suc n) (y ∷ ys) x h = ap (λ zs. y ∷ zs) (first_taken n ys x h)
-
-dropped : {X : Type 0} (k n : ℕ) (xs : List X) → slice_get (drop k xs) n ≡ slice_get xs (k + n)
-dropped zero n xs = ap (slice_get xs) (let e : n ≡ 0 + n = omega arith in e)
-dropped (suc k) zero [] = ap (slice_get []) (let e : suc k ≡ suc k + 0 = omega arith in e)
-dropped (suc k) (suc n) [] = ap (slice_get []) (let e : suc (k + suc n) ≡ suc k + suc n = omega arith in e)
-dropped (suc k) n (x ∷ xs) = dropped k n xs ∙ ap (slice_get (x ∷ xs)) (let e : suc (k + n) ≡ suc k + n = omega arith in e)
-
--- one more element of a part
-pub one_taken : {X : Type 0} (start k at : ℕ) (xs : List X) (x : X) → start ≤ k → slice_get xs (at + (k - start)) ≡ Some x
-    → take (k + 1 - start) (drop at xs) ≡ take (k - start) (drop at xs) ++ x ∷ []
-one_taken start k at xs x low h =
-    ap (λ n. take n (drop at xs)) (let e : k + 1 - start ≡ suc (k - start) = omega arith in e)
-    ∙ first_taken (k - start) (drop at xs) x (dropped at (k - start) xs ∙ h)
