@@ -13,7 +13,7 @@ use Rattle.farm_history.specs.Rules.{Fits, Legal}
 use Rattle.farm_history.proofs.Lists.{each-map, each-none, find-none}
 use Rattle.farm_history.proofs.Apart.{job_is_next}
 use Rattle.farm_history.proofs.Numbers.{tickets_below}
-use Rattle.farm_history.proofs.Flying.{ends_ticket as ends, still_flies}
+use Rattle.farm_history.proofs.Flying.{ends_ticket as ends, found_last, still_flies}
 use Rattle.farm_events.specs.Seats.{plain, gives_ticket, ends_ticket, claimer, SeatFits, Seated, is_ended_by}
 use Rattle.farm_events.specs.Promises.{is_ended}
 
@@ -55,9 +55,6 @@ pub record IsAway (o : List Entry) (n t : ℕ) (flight : Flight) (g : List (ℕ 
   pub flies : flight_in (flights (plain g ++ o)) t ≡ Some flight
   pub claimed : claimer g t ≡ Some n
   pub below : t < jobs (plain g ++ o)
-
-found_last : (o : Option Flight) (f : Flight) → o ≡ None → option_or o (Some f) ≡ Some f
-found_last o f none = rw none refl
 
 begins_away : (p : Plan) (told : Bool) (o : List Entry) (n worker t v : ℕ) (k : Key) (g : List (ℕ × Entry)) → Legal p told (Claim worker (Job t k v) ∷ (plain g ++ o)) →
     IsAway o n t (record { ticket = t; key = k; before = plain g ++ o }) ((n, Claim worker (Job t k v)) ∷ g)

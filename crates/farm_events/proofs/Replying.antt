@@ -1,5 +1,5 @@
 -- A reply to a front is to an ask among the entries of its own seat.
-use Rattle.std.proofs.Common.{◌≡◌, ◌≢◌, ℕ, suc, ◌+◌, ◌<◌, ◌≤◌, Bool, true, false, ◌&&◌, cond, ◌==◌, nat_lt, List, [], ◌∷◌, ◌++◌, length, filter, Option, Some, None, refl, sym, ap, ◌∙◌, subst, arith}
+use Rattle.std.proofs.Common.{◌≡◌, ◌≢◌, ℕ, ◌+◌, ◌<◌, Bool, true, false, ◌&&◌, cond, ◌==◌, nat_lt, List, [], ◌∷◌, ◌++◌, length, filter, Option, Some, None, refl, sym, ap, ◌∙◌, subst, arith}
 use Rattle.std.proofs.lemmas.Bool.{or_parts}
 use Rattle.std.proofs.lemmas.Bool.Decides.{nat_tests}
 use Rattle.farm_history.specs.declared.keys.Key.{Key}
@@ -15,7 +15,7 @@ use Rattle.farm_history.specs.Replays.{replay_front}
 use Rattle.farm_history.specs.Lists.{Each}
 use Rattle.farm_history.proofs.Lists.{each-passes, each-map}
 use Rattle.farm_history.proofs.Replies.{IsReplyIn, replies_in}
-use Rattle.farm_history.proofs.OneReply.{one_reply}
+use Rattle.farm_history.proofs.OneReply.{left_none, one_reply}
 use Rattle.farm_events.specs.Seats.{plain, SeatFits, Seated}
 use Rattle.farm_core.specs.Begins.{BeginsWell}
 use Rattle.farm_events.specs.Promises.{own_of}
@@ -28,13 +28,6 @@ record Owns (m : ℕ) (a : Numbered) (h own : List Entry) : Type 0 where
   inner : length ask.before < length own
   outer : length a.before < length h
   not_left : is_left_after h (length a.before) a.conn ≡ false → is_left_after own (length ask.before) a.conn ≡ false
-
--- no Leave stands after the last place
-left_none : (h : List Entry) (place : ℕ) (conn : Conn) → length h ≤ suc place → is_left_after h place conn ≡ false
-unfolding is_left_after
-left_none [] place conn h = refl
-left_none (Leave c count ∷ g) place conn h = let lt : nat_lt place (length g) ≡ false = grind (arith, nat_tests) in let rest : is_left_after g place conn ≡ false = left_none g place conn (omega arith) in grind arith
-left_none (_ ∷ g) place conn h = left_none g place conn (omega arith)
 
 -- an entry that neither asks with that number nor leaves
 passes : (m : ℕ) (a : Numbered) (h own : List Entry) (e : Entry) (b : Bool) → ((g : List Entry) → ask_numbered (e ∷ g) m ≡ ask_numbered g m) →

@@ -1,5 +1,6 @@
 -- A drawing under way stays so until its Finish, and the data before its Claim begin the newest data.
-use Rattle.std.proofs.Common.{◌≡◌, ℕ, Bool, true, false, cond, ◌==◌, List, [], ◌∷◌, ◌++◌, length, map, filter, find, Some, option_map, refl, sym, ap, ap₂, ◌∙◌, arith, append_assoc, append-nil, length-append}
+use Rattle.std.proofs.Common.{◌≡◌, ℕ, Bool, true, false, cond, ◌==◌, List, [], ◌∷◌, ◌++◌, length, map, filter, find, Option, Some, None, option_map, refl, sym, ap, ap₂, ◌∙◌, arith, append_assoc, append-nil, length-append}
+use Rattle.std.specs.Option.{option_or}
 use Rattle.std.proofs.lemmas.Bool.Decides.{nat_tests}
 use Rattle.farm_history.specs.declared.answers.ClaimAnswer.TheVariants.{Job}
 use Rattle.farm_history.specs.declared.answers.Updated.{Updated}
@@ -35,6 +36,10 @@ found_kept {X} q r (x ∷ xs) stays = go (r x) (q x) refl (stays x) (found_kept 
     go true b is stays ih = ap₂ (λ d o. cond d (Some x) o) is ih
     go false true is stays ih = let never = stays refl in cc
     go false false is stays ih = ih
+
+-- what is found where nothing was before
+pub found_last : (o : Option Flight) (f : Flight) → o ≡ None → option_or o (Some f) ≡ Some f
+found_last o f none = rw none refl
 
 -- whether the entry is the Finish of that ticket
 abbrev pub ends_ticket : Entry → ℕ → Bool

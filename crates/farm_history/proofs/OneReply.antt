@@ -49,7 +49,7 @@ pub record Counted (h : List Entry) : Type 0 where
   pub opens : Each (IsOpen h) (open_asks h)
 
 -- no Leave stands after the last place
-left_none : (h : List Entry) (place : ℕ) (conn : Conn) → length h ≤ suc place → is_left_after h place conn ≡ false
+pub left_none : (h : List Entry) (place : ℕ) (conn : Conn) → length h ≤ suc place → is_left_after h place conn ≡ false
 unfolding is_left_after
 left_none [] place conn h = refl
 left_none (Leave c count ∷ g) place conn h = let lt : nat_lt place (length g) ≡ false = grind (arith, nat_tests) in let rest : is_left_after g place conn ≡ false = left_none g place conn (omega arith) in grind arith

@@ -345,7 +345,7 @@ rising_apart [] h = tt
 rising_apart (x ∷ xs) h = (all_not (λ y. key_before x.key y.key) (λ y. same_key y.key x.key) xs (λ y b. before_other x.key y.key b) (grind arith), rising_apart xs (grind arith))
 
 -- each is the one that is kept of its key
-each_own : (xs : List Kept) → AreApart kept_key xs → Each (λ x. kept_of xs x.key ≡ Some x) xs
+pub each_own : (xs : List Kept) → AreApart kept_key xs → Each (λ x. kept_of xs x.key ≡ Some x) xs
 each_own [] apart = tt
 each_own (x ∷ xs) apart = (ap (λ b. cond b (Some x) (kept_of xs x.key)) (same_key-self x.key), each-map _ _ xs later (each-both _ _ xs (each_own xs apart.1) (none-each (λ y. same_key y.key x.key) xs apart.0)))
   where
@@ -380,7 +380,7 @@ fresh_at p h k v is = go (shown h k) refl is
     go (Some before) s e = at before (is_touched_after p h (length before) k) s refl e
 
 -- as many changes as their numbers
-as_many : (h : List Entry) → length (changes_after h) ≡ version h
+pub as_many : (h : List Entry) → length (changes_after h) ≡ version h
 as_many h = sym (ap length (data_changes h) ∙ length-map (changes_after h) past_number)
 
 good_one : (p : Plan) (told : Bool) (h : List Entry) (s : Saving) (x : Kept) → Legal p told h → IsSaved p h s → kept_of s.clean x.key ≡ Some x → IsGood p s x

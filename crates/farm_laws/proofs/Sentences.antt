@@ -15,7 +15,7 @@ use Rattle.farm_history.specs.Laws.{flight_key, GapAt, StaysDirty}
 use Rattle.farm_history.proofs.Lists.{same_key-self, any-append, each-map, each-none, find-none}
 use Rattle.farm_history.proofs.Apart.{job_is_next}
 use Rattle.farm_history.proofs.Numbers.{tickets_below}
-use Rattle.farm_history.proofs.Flying.{still_flies}
+use Rattle.farm_history.proofs.Flying.{found_last, still_flies}
 use Rattle.farm_history.proofs.Sounds.{legal_before, sound}
 use Rattle.farm_laws.specs.Promise.{is_finished_in}
 
@@ -39,9 +39,6 @@ flight_of t k before = record { ticket = t; key = k; before = before }
 record IsOnly (t : ℕ) (f : Flight) (g : List Entry) : Type 0 where
   below : t < jobs g
   found : (flight_in (flights g) t ≡ Some f) ⊎ (flight_in (flights g) t ≡ None)
-
-found_last : (o : Option Flight) (f : Flight) → o ≡ None → option_or o (Some f) ≡ Some f
-found_last o f none = rw none refl
 
 new_flies : (p : Plan) (told : Bool) (worker t v : ℕ) (k : Key) (before : List Entry) → Legal p told (Claim worker (Job t k v) ∷ before) → flight_in (flights (Claim worker (Job t k v) ∷ before)) t ≡ Some (flight_of t k before)
 unfolding Fits flights
