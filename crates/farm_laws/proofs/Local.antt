@@ -12,14 +12,13 @@ use Rattle.plain_world.specs.declared.world.Tile.{Tile}
 use Rattle.plain_world.specs.World.{side_at, tile_square, meta_square, meta_of, window_of, InSquare, IsTile, IsTileSize}
 use Rattle.plain_world.proofs.Windows.{world_wide}
 use Rattle.plain_shapes.specs.Images.{Pixels}
-use Rattle.plain_shapes.specs.Ppm.{ppm}
 use Rattle.plain_shapes.specs.Features.{Feature, Layer}
 use Rattle.plain_shapes.specs.Data.{Change, update_result}
 use Rattle.plain_shapes.specs.Reach.{Reaches, feature_reaches}
 use Rattle.plain_drawing.specs.Styles.{Style, LayerRef, MapStyle, KeepsRanges}
 use Rattle.plain_drawing.specs.Grids.{Grid}
-use Rattle.plain_drawing.specs.Rules.{denominator_of, is_active}
-use Rattle.plain_drawing.specs.Drawing.{drawn_tile, Item, feature, raster, features_of, items_of, style_named}
+use Rattle.plain_drawing.specs.Rules.{denominator_of}
+use Rattle.plain_drawing.specs.Drawing.{drawn_tile, pixels_text, Item, feature, raster, features_of, items_of, style_named, is_drawn}
 use Rattle.plain_drawing.specs.inner.Pictures.{with_item, with_style, with_layer, with_map}
 use Rattle.plain_drawing.proofs.Steps.{one_colour, drawn_as_tile}
 use Rattle.drawing_reach.proofs.Edges.{by_edges}
@@ -95,7 +94,7 @@ same_layer : (size d : ℕ) (t : Tile) (style : MapStyle) (a b : List Layer) (la
     with_layer (window_of t size) d style a image layer ≡ with_layer (window_of t size) d style b image layer
 unfolding with_layer
 same_layer size d t style a b layer image tile sizes keeps alike =
-    ap (λ m. cond (is_active layer.minimum_scale_denominator layer.maximum_scale_denominator d) m image)
+    ap (λ m. cond (is_drawn d layer) m image)
     (fold_agree (with_style (window_of t size) d (items_of style.grids a layer.source)) (with_style (window_of t size) d (items_of style.grids b layer.source))
     (flat_map (style_named style.styles) layer.styles)
     (named_each (λ s. (m : Pixels) → with_style (window_of t size) d (items_of style.grids a layer.source) m s ≡ with_style (window_of t size) d (items_of style.grids b layer.source) m s)
@@ -119,12 +118,12 @@ same_map size d t style a b image tile sizes keeps alike =
     (λ layer m. same_layer size d t style a b layer m tile sizes keeps alike)) image
 
 -- the text of the picture of the tile's window
-tile_text : MapStyle → ℕ → Tile → Pixels → List ℕ
-tile_text style size t p = ppm p.cols p.rows p.pixels
+picture_text : MapStyle → ℕ → Tile → Pixels → List ℕ
+picture_text style size t p = pixels_text p.cols p.rows p.pixels
 
 tile_drawn : (style : MapStyle) (size : ℕ) (t : Tile) (a : List Layer) →
-    tile_text style size t (with_map (window_of t size) (denominator_of t.z size) style a (one_colour (window_of t size) style.background_color)) ≡ drawn_tile style size t a
-unfolding tile_text
+    picture_text style size t (with_map (window_of t size) (denominator_of t.z size) style a (one_colour (window_of t size) style.background_color)) ≡ drawn_tile style size t a
+unfolding picture_text
 tile_drawn style size t a =
     drawn_as_tile style size t a (window_of t size) (denominator_of t.z size) (one_colour (window_of t size) style.background_color)
     (with_map (window_of t size) (denominator_of t.z size) style a (one_colour (window_of t size) style.background_color)) _ refl refl refl refl refl
@@ -132,7 +131,7 @@ tile_drawn style size t a =
 pub same_tile : LawLocal
 same_tile style size t a b ranged sizes tile alike =
     sym (tile_drawn style size t a)
-    ∙ ap (tile_text style size t) (same_map size (denominator_of t.z size) t style a b (one_colour (window_of t size) style.background_color) tile sizes
+    ∙ ap (picture_text style size t) (same_map size (denominator_of t.z size) t style a b (one_colour (window_of t size) style.background_color) tile sizes
     (each_of KeepsRanges style.styles (recursion_from_All KeepsRanges style.styles ranged)) alike)
     ∙ tile_drawn style size t b
 
