@@ -7,6 +7,8 @@ use Rattle.serde_json.specs.Data.{Data, no_items}
 use Rattle.serde_json.specs.Find.{get, as_str, as_array}
 use Rattle.plain_shapes.specs.declared.shapes.LineCap.TheVariants as cap
 use Rattle.plain_drawing.specs.declared.style.FilterMode.TheVariants as mode
+use Rattle.plain_shapes.specs.Limits.{most_name_bytes}
+use Rattle.plain_drawing.specs.Limits.{most_symbolizers, most_rules, most_styles, most_map_layers, most_rasters, most_file_bytes}
 use Rattle.plain_drawing.specs.Styles.{Style, LayerRef, RasterRef, style_has, layer_has, raster_has, is_text_to, is_width}
 use Rattle.filter_expr.specs.declared.faults.FilterFault.TheVariants.{Bad, NumberRange, TooDeep, NoMemory}
 use Rattle.filter_expr.specs.Lexing.{tokens_from}
@@ -147,7 +149,7 @@ rule_told : (at : At) (d : Data) → Told (rule_of text_reading at d)
 unfolding rule_of
 rule_told at d =
     step HasText _ _ (opened_told object.Rule at d) (λ u.
-    step HasText _ _ (few HasText 16 (fault.Range at) (get (codes "symbolizers") d) refl) (λ found.
+    step HasText _ _ (few HasText most_symbolizers (fault.Range at) (get (codes "symbolizers") d) refl) (λ found.
     step HasText _ _ (filters_told at d) (λ filters.
     step HasText _ _ (may HasText 0 (in_grammar text_reading.hundredths at) (get (codes "MinScaleDenominator") d) (grammar_told text_reading.hundredths at)) (λ least.
     step HasText _ _ (may HasText None (a_bound text_reading at) (get (codes "MaxScaleDenominator") d) (bound_told at)) (λ greatest.
@@ -159,8 +161,8 @@ style_told : (at : At) (before : List Style) (d : Data) → Told (style_of text_
 unfolding style_of
 style_told at before d =
     step HasText _ _ (opened_told object.Style at d) (λ u.
-    step HasText _ _ (few HasText 256 (fault.Range at) (get (codes "rules") d) refl) (λ found.
-    step HasText _ _ (needs HasText (fault.Shape at) (a_text_to 64 at) (get (codes "name") d) refl (text_told 64 at)) (λ name.
+    step HasText _ _ (few HasText most_rules (fault.Range at) (get (codes "rules") d) refl) (λ found.
+    step HasText _ _ (needs HasText (fault.Shape at) (a_text_to most_name_bytes at) (get (codes "name") d) refl (text_told most_name_bytes at)) (λ name.
     step HasText _ _ (may HasText mode.All (in_grammar mode_of at) (get (codes "filter-mode") d) (grammar_told mode_of at)) (λ filter_mode.
     step HasText _ _ (has HasText found (fault.Shape at) refl) (λ items.
     step HasText _ _ (checks HasText (not (style_has name before)) (fault.Double at) refl) (λ v.
@@ -169,15 +171,15 @@ style_told at before d =
 style_name_told : (styles : List Style) (at : At) (before : List (List ℕ)) (d : Data) → Told (style_name_of styles at before d)
 unfolding style_name_of
 style_name_told styles at before d =
-    step HasText _ _ (text_told 64 at d) (λ name.
+    step HasText _ _ (text_told most_name_bytes at d) (λ name.
     step HasText _ _ (checks HasText (style_has name styles) (fault.NoStyle at) refl) (λ u. tt))
 
 layer_told : (styles : List Style) (at : At) (before : List LayerRef) (d : Data) → Told (layer_of text_reading styles at before d)
 unfolding layer_of
 layer_told styles at before d =
     step HasText _ _ (opened_told object.Layer at d) (λ u.
-    step HasText _ _ (needs HasText (fault.Shape at) (a_text_to 64 at) (get (codes "name") d) refl (text_told 64 at)) (λ name.
-    step HasText _ _ (needs HasText (fault.Shape at) (a_text_to 64 at) (get (codes "source") d) refl (text_told 64 at)) (λ source.
+    step HasText _ _ (needs HasText (fault.Shape at) (a_text_to most_name_bytes at) (get (codes "name") d) refl (text_told most_name_bytes at)) (λ name.
+    step HasText _ _ (needs HasText (fault.Shape at) (a_text_to most_name_bytes at) (get (codes "source") d) refl (text_told most_name_bytes at)) (λ source.
     step HasText _ _ (may HasText 0 (in_grammar text_reading.hundredths at) (get (codes "minimum-scale-denominator") d) (grammar_told text_reading.hundredths at)) (λ least.
     step HasText _ _ (may HasText None (a_bound text_reading at) (get (codes "maximum-scale-denominator") d) (bound_told at)) (λ greatest.
     step HasText _ _ (needs HasText (fault.Shape at) (list (fault.Shape at)) (get (codes "styles") d) refl (λ e. has HasText (as_array e) (fault.Shape at) refl)) (λ items.
@@ -188,8 +190,8 @@ raster_told : (at : At) (before : List RasterRef) (d : Data) → Told (raster_of
 unfolding raster_of
 raster_told at before d =
     step HasText _ _ (opened_told object.Raster at d) (λ u.
-    step HasText _ _ (needs HasText (fault.Shape at) (a_text_to 64 at) (get (codes "name") d) refl (text_told 64 at)) (λ name.
-    step HasText _ _ (needs HasText (fault.Shape at) (a_text_to 100 at) (get (codes "file") d) refl (text_told 100 at)) (λ file.
+    step HasText _ _ (needs HasText (fault.Shape at) (a_text_to most_name_bytes at) (get (codes "name") d) refl (text_told most_name_bytes at)) (λ name.
+    step HasText _ _ (needs HasText (fault.Shape at) (a_text_to most_file_bytes at) (get (codes "file") d) refl (text_told most_file_bytes at)) (λ file.
     step HasText _ _ (needs HasText (fault.Shape at) (a_number 0 at) (get (codes "west") d) refl (number_told 0 at)) (λ west.
     step HasText _ _ (needs HasText (fault.Shape at) (a_number 0 at) (get (codes "north") d) refl (number_told 0 at)) (λ north.
     step HasText _ _ (needs HasText (fault.Shape at) (a_number 1 at) (get (codes "pixel") d) refl (number_told 1 at)) (λ pixel.
@@ -199,9 +201,9 @@ map_told : (at : At) (d : Data) → Told (map_object text_reading at d)
 unfolding map_object
 map_told at d =
     step HasText _ _ (opened_told object.Map at d) (λ u.
-    step HasText _ _ (few HasText 256 (fault.Range at) (get (codes "styles") d) refl) (λ found_styles.
-    step HasText _ _ (few HasText 64 (fault.Range at) (get (codes "layers") d) refl) (λ found_layers.
-    step HasText _ _ (few HasText 2 (fault.Range at) (get (codes "rasters") d) refl) (λ found_rasters.
+    step HasText _ _ (few HasText most_styles (fault.Range at) (get (codes "styles") d) refl) (λ found_styles.
+    step HasText _ _ (few HasText most_map_layers (fault.Range at) (get (codes "layers") d) refl) (λ found_layers.
+    step HasText _ _ (few HasText most_rasters (fault.Range at) (get (codes "rasters") d) refl) (λ found_rasters.
     step HasText _ _ (may HasText (rgb 255 255 255) (in_grammar text_reading.colour at) (get (codes "background-color") d) (grammar_told text_reading.colour at)) (λ background.
     step HasText _ _ (has HasText found_styles (fault.Shape at) refl) (λ style_items.
     step HasText _ _ (has HasText found_layers (fault.Shape at) refl) (λ layer_items.

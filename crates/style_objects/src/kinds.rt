@@ -3,6 +3,7 @@ ghost use Rattle.std.specs.Prelude.{◌≡◌, ◌≤◌, ◌&&◌, ◌^◌, not
 ghost use Rattle.serde_json.specs.Find.{get};
 ghost use Rattle.serde_json.specs.View.{view, items_view};
 ghost use Rattle.plain_filters.specs.Filters.{tree_of};
+ghost use Rattle.plain_drawing.specs.Limits.{most_rasters};
 ghost use Rattle.plain_drawing.specs.Styles.{is_text_to, is_width, is_opacity};
 ghost use Rattle.reading.specs.Steps.{seen, Gives};
 ghost use Rattle.reading.specs.Values.{needed, or_value};
@@ -330,8 +331,8 @@ pub fn list_or_none<'a>(
     value: Option<&'a Value>,
     at: At,
 ) -> Result<&'a [Value], StyleFault>
-    requires { IfSome found (λ vs. length vs.now ≤ 2) }
-    ensures short { IfOk result (λ vs. length vs.now ≤ 2) }
+    requires { IfSome found (λ vs. length vs.now ≤ most_rasters) }
+    ensures short { IfOk result (λ vs. length vs.now ≤ most_rasters) }
     ensures value { seen (λ vs. items_view vs.now) result ≡ parts.list_or_none at (option_map
         (λ vs. items_view vs.now) found.entry) (option_map (λ v. view v.now) value.entry) }
 {
