@@ -1,5 +1,5 @@
 -- How many events there were and how many asks are open: a bound of how often a farm is called.
-use Rattle.std.proofs.Common.{◌≡◌, ℕ, ◌+◌, ◌≤◌, Bool, true, false, not, cond, ◌==◌, List, [], ◌∷◌, ◌++◌, length, filter, count_by, refl, ap, ◌∙◌, arith}
+use Rattle.std.proofs.Common.{◌≡◌, ℕ, ◌+◌, ◌≤◌, Bool, true, false, not, cond, ◌==◌, List, [], ◌∷◌, ◌++◌, length, filter, refl, ap, ◌∙◌, arith}
 use Rattle.std.specs.Prelude.{Option, Some, None}
 use Rattle.std.specs.List.{list_any}
 use Rattle.std.proofs.lemmas.Bool.Decides.{nat_tests}
@@ -23,11 +23,11 @@ use Rattle.farm_history.specs.Rules.{Fits, Legal}
 use Rattle.farm_history.specs.Seen.{waiting_asks, outbox}
 use Rattle.farm_history.specs.Lists.{Each}
 use Rattle.farm_history.proofs.Lists.{each-map}
-use Rattle.farm_history.proofs.Counts.{count-cons}
 use Rattle.farm_history.proofs.Replies.{collected}
 use Rattle.farm_history.proofs.Unended.{open_split}
 use Rattle.farm_refinement.specs.Seen.{FarmSeen}
 use Rattle.farm_refinement.specs.Stands.{asked_of, StandsFor}
+use Rattle.farm_refinement.proofs.Queueing.{count_all}
 use Rattle.load_command.specs.Loads.{GivesNone}
 use Rattle.load_command.specs.inner.Progress.{weight}
 
@@ -100,10 +100,6 @@ ask_weighs conn command spot answer g = go (number_in answer)
     go None = omega arith
     go (Some n) = let more : length (open_asks g ++ record { conn = conn; number = n; key = key_of spot; before = g } ∷ []) ≡ length (open_asks g) + 1 = length-append (open_asks g) _ ∙ omega arith in omega (arith, more)
 
-count-all : {X : Type 0} (xs : List X) → count_by (λ x. true) xs ≡ length xs
-count-all [] = refl
-count-all (x ∷ xs) = count-cons (λ x. true) x xs ∙ (let rest = count-all xs in omega (arith, rest))
-
 -- the tables of a farm have the open asks
 pub open_kept : {D : Type 0} (state : D → Outside StoreTold) (told : Bool) (farm : FarmSeen D) (h : List Entry) → StandsFor state told farm h
     → length farm.queues.asks + length farm.queues.ended ≡ length (open_asks h)
@@ -111,7 +107,7 @@ open_kept state told farm h stands =
     let waiting : length farm.queues.asks ≡ length (waiting_asks h) = ap length stands.queues_are.asks_are ∙ length-map (waiting_asks h) asked_of in
     let over : length farm.queues.ended ≡ length (outbox h) = ap length stands.queues_are.ended_are in
     let split = open_split (λ c. true) h in
-    let all = count-all (open_asks h) in
-    let some = count-all (waiting_asks h) in
-    let rest = count-all (outbox h) in
+    let all = count_all (open_asks h) in
+    let some = count_all (waiting_asks h) in
+    let rest = count_all (outbox h) in
     omega (arith, waiting, over, split, all, some, rest)
