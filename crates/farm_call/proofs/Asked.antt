@@ -1,6 +1,6 @@
 -- What the words ask for, by what was read of them.
 use Rattle.std.proofs.Common.{◌≡◌, ℕ, ◌⊎◌, inl, inr, Bool, true, false, List, [], ◌∷◌, refl, sym, ap, ap₂, subst, ◌∙◌}
-use Rattle.std.specs.Prelude.{◌==◌, Option, Some, None, Result, Ok, Err, Vec}
+use Rattle.std.specs.Prelude.{◌==◌, Option, Some, None, Result, Ok, Err, IfOk, Vec}
 use Rattle.std.specs.declared.alloc.Global.{Global}
 use Rattle.farm_base.specs.Outside.{Outside}
 use Rattle.tile_store.specs.Stores.{StoreTold}
@@ -30,15 +30,15 @@ use Rattle.render_command.specs.MetaCourses.{meta_course}
 use Rattle.farm_call.specs.Words.{AsksFor, IsCourse, Asks}
 use Rattle.port_events.specs.declared.ends.FrontDone.{FrontDone}
 use Rattle.farm_call.specs.Call.{Work, puts, scripts, loads, serves}
-use Rattle.farm_call.specs.inner.Works.{Does, over}
+use Rattle.farm_call.specs.inner.Works.{Does}
 use Rattle.port_events.specs.Told.{PortsTold}
 use Rattle.farm_runs.specs.declared.each_front.EachFront.{EachFront}
-use Rattle.farm_call.specs.inner.Serving.{World}
+use Rattle.farm_call.specs.inner.Serving.{World, over}
 use Rattle.farm_call.specs.inner.Steps as serve
 use Rattle.farm_call.specs.declared.left.Left.{Left}
 use Rattle.farm_call.specs.declared.left.Left.TheVariants.{Store}
 use Rattle.farm_call.specs.declared.left.Done.{Done}
-use Rattle.farm_call.specs.inner.Runs.{LeavesStore, Runs}
+use Rattle.farm_call.specs.inner.Runs.{LeavesStore, IsSound, Runs, RunsRead}
 
 -- the values of words that ask for a command are those that clap reads
 clap_reads : (words : List (List ℕ)) (c : Command) (a : AsksFor words c) → values_of words ≡ Some a.values
@@ -99,6 +99,18 @@ asks_values words c (Some values) h reads =
 
 asks_read : (words : List (List ℕ)) (c : Command) → ReadsWords words (Ok c) → AsksFor words c
 asks_read words c reads = asks_values words c (values_of words) refl reads
+
+-- and it is sound
+spelled_sound : (c : Command) (values : List (List ℕ)) → Spells c values → IsSound c
+spelled_sound (Render style data_name size tile) values s = (s.1, s.2)
+spelled_sound (Load seed n) values s = s.3
+spelled_sound (Script config lines) values s = tt
+spelled_sound (Serve config) values s = tt
+spelled_sound (Meta file) values s = tt
+
+pub sound_read : (words : List (List ℕ)) (read : Result Command WordsFault) → ReadsWords words read → IfOk read IsSound
+sound_read words (Ok c) reads = let a = asks_read words c reads in spelled_sound c a.values a.spelled
+sound_read words (Err fault) reads = tt
 
 -- a world is that of its parts
 same_world : {D : Type 0} (new : World D) (store : D) (out : SinkAt) (ports : EachFront (Outside PortsTold)) → new.out ≡ out → new.left ≡ Store store → new.fronts ≡ [] → new.ports ≡ ports → new ≡ over out store ports
@@ -184,6 +196,16 @@ module _ {D : Type 0} (state : D → Outside StoreTold) (words : List (List ℕ)
   -- the command that was read is done
   pub runs_read : (c : Command) → ReadsWords words (Ok c) → Runs state c files files' store (over out store ports) new end → Call
   runs_read c reads ran = runs_asked c (asks_read words c reads) ran
+
+  -- words that are refused ask for nothing
+  none_asked : ReadsWords words (Err words_fault.Refused) → (course : Course Work) → ¬ (Asks words course)
+  none_asked reads course asks = reads.given asks.1.values (clap_reads words asks.0 asks.1) asks.0 asks.1.spelled
+
+  -- what was read is done
+  pub runs_words : (read : Result Command WordsFault) → ReadsWords words read → RunsRead state read files files' store (over out store ports) new end → Call
+  runs_words (Ok c) reads ran = runs_read c reads ran
+  runs_words (Err words_fault.Refused) reads ran = inr (inl (none_asked reads, record { ends = ran.0; files_same = ran.1; world_same = ran.2 }))
+  runs_words (Err words_fault.NoMemory) reads ran = inr (inr (record { ends = ran.0; files_same = ran.1; world_same = ran.2 }))
 
 -- a command that leaves the store, as it ended
 pub leaves : {D : Type 0} (old : World D) (out : SinkAt) (runs : Result (Unit {0}) Stop → D → Type 0) (store' : D) (end : Result (Unit {0}) Stop) (done : Done D) → done.end ≡ end → done.left ≡ Store store' → done.fronts.items ≡ [] → runs end store'

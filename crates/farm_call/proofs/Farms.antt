@@ -31,7 +31,7 @@ use Rattle.farm_laws.specs.Locality.{IsSentNow}
 use Rattle.farm_laws.specs.Promise.{Promise}
 use Rattle.farm_laws.proofs.Promised.{keeps as keeps_promise}
 use Rattle.farm_runs.specs.Promise.{AreSeated, AreWorked, IsServed}
-use Rattle.front_leaves.specs.Fronts.{renderd_leaves, tiles_leave}
+use Rattle.farm_call.specs.inner.Fronts.{renderd_leaves, tiles_leave}
 use Rattle.front_leaves.proofs.Laws.{marked}
 use Rattle.tile_paths.specs.Paths.{saved_path}
 use Rattle.farm_call.specs.Beginnings.{HasEmptied, ResumesFrom}

@@ -18,7 +18,7 @@ use Rattle.farm_refinement.specs.Seen.{FarmSeen}
 use Rattle.farm_runs.specs.declared.each_front.EachFront.{EachFront}
 use Rattle.farm_runs.specs.Promise.{RunsWell}
 use Rattle.farm_runs.specs.declared.running.Run.{Run}
-use Rattle.front_leaves.specs.Fronts.{renderd_leaves, tiles_leave, control_leaves}
+use Rattle.farm_call.specs.inner.Fronts.{renderd_leaves, tiles_leave, control_leaves}
 use Rattle.farm_call.specs.Beginnings.{HasBegun, CannotBegin}
 use Rattle.farm_call.specs.Listens.{Listening}
 use Rattle.farm_call.specs.Endings.{why_ended, WindsUp}
@@ -28,7 +28,7 @@ use Rattle.farm_call.specs.declared.left.Left.TheVariants.{Store, Farm}
 use Rattle.farm_call.specs.declared.left.Done.{Done}
 use Rattle.farm_call.specs.Serves.{WhyNot, places, fronts_of, end_of, is_worn_out}
 use Rattle.farm_call.specs.inner.Serving.{World, Serves, ServesTo}
-use Rattle.farm_call.specs.inner.Steps.{EndsRun, HasRun, RanTo, ends_of}
+use Rattle.farm_call.specs.inner.Steps.{EndsRun, HasRun, IsReady, MakesReady, RanTo, ends_of}
 
 module _ {D : Type 0} (state : D → Outside StoreTold) where
   -- a run was ended
@@ -49,12 +49,19 @@ module _ {D : Type 0} (state : D → Outside StoreTold) where
     before = record { out = out; left = Store ready.farm.store; fronts = []; ports = ports }
 
     -- a farm has run and was ended
-    pub has_run : (run : Run D) (done : Done D)
-        → RunsWell state ready.farm run.closed.0 run.closed.1 (renderd_leaves (maps_in ready.farm.plan)) (tiles_leave (maps_in ready.farm.plan)) (control_leaves ready.lists.items) ports ports' run.fronts (ends_of run)
+    pub has_run : (lists : List (List Tile)) → lists ≡ ready.lists.items → (run : Run D) (done : Done D)
+        → RunsWell state ready.farm run.closed.0 run.closed.1 (renderd_leaves (maps_in ready.farm.plan)) (tiles_leave (maps_in ready.farm.plan)) (control_leaves lists) ports ports' run.fronts (ends_of run)
         → EndsRun state ready.resume run out out' done → HasRun state ready before (record { out = out'; left = done.left; fronts = done.fronts.items; ports = ports' }) done.end
-    has_run run done runs ended =
+    has_run lists same run done runs ended =
         subst (λ (l : Left D). RanTo state ready before (record { out = out'; left = l; fronts = done.fronts.items; ports = ports' }) done.end l) (sym ended.left_is)
-        (record { last = run.closed.0; done = run.fronts; ends = ends_of run; runs = runs; fronts_are = ended.fronts_are; winds = ended.winds })
+        (record {
+          last = run.closed.0;
+          done = run.fronts;
+          ends = ends_of run;
+          runs = subst (λ (x : List (List Tile)). RunsWell state ready.farm run.closed.0 run.closed.1 (renderd_leaves (maps_in ready.farm.plan)) (tiles_leave (maps_in ready.farm.plan)) (control_leaves x) ports ports' run.fronts (ends_of run)) same runs;
+          fronts_are = ended.fronts_are;
+          winds = ended.winds;
+        })
 
   module _ (s : ServeInputs) (store : D) where
     module _ (config : Config) (config_is : config ≡ s.config) (plan : FarmPlan) (plan_is : plan ≡ s.inputs.plan) (resume : Bool) (resume_is : resume ≡ s.config.resume) where
@@ -68,9 +75,12 @@ module _ {D : Type 0} (state : D → Outside StoreTold) where
       pub listened : (old new : EachFront (Outside PortsTold)) (end : Result (Unit {0}) Stop) → Listening (places config old new) end → Listening (places s.config old new) end
       listened old new end h = subst (λ (c : Config). Listening (places c old new) end) config_is h
 
-  -- what is served are inputs, put together of their parts
-  pub of_parts : (parts s : ServeInputs) → parts ≡ s → (store : D) (old new : World D) (end : Result (Unit {0}) Stop) → Serves state parts store old new end → Serves state s store old new end
-  of_parts parts s is store old new end h = subst (λ (x : ServeInputs). Serves state x store old new end) is h
+  -- what is made ready are inputs, put together of their parts
+  pub ready_of_parts : (parts s : ServeInputs) → parts ≡ s → (store : D) (ports ports' : EachFront (Outside PortsTold)) (ready : Ready D) → IsReady state parts store ports ports' ready → MakesReady state s store ports ports' (Ok ready)
+  ready_of_parts parts s is store ports ports' ready h = subst (λ (x : ServeInputs). IsReady state x store ports ports' ready) is h
+
+  pub not_of_parts : (parts s : ServeInputs) → parts ≡ s → (store : D) (ports ports' : EachFront (Outside PortsTold)) (back : D) (why : Stop) → WhyNot state parts store back ports ports' why → MakesReady state s store ports ports' (Err (back, why))
+  not_of_parts parts s is store ports ports' back why h = subst (λ (x : ServeInputs). WhyNot state x store back ports ports' why) is h
 
   module _ (s : ServeInputs) (store : D) (out out' : SinkAt) (ports ports' : EachFront (Outside PortsTold)) where
     abbrev start : World D

@@ -31,7 +31,8 @@ resume_text (fault.Kept place) = Some (codes "resume 3")
 resume_text (fault.Apply place why) = Some (codes "resume 4")
 resume_text fault.NoMemory = None
 
--- what a farm of the plan is resumed from, by what was found of a saved one: by nothing and by no bytes it begins anew. Or the text of the first fault, of what is saved or of that over the plan
+-- what a farm of the plan is resumed from, by what was found of a saved one: by nothing and by no
+-- bytes it begins anew. Or the text of the first fault, of what is saved or of that over the plan
 abbrev pub resumed_by : FarmPlan → Option (List ℕ) → Result (Option Saving) (Option (List ℕ))
 resumed_by plan None = Ok None
 resumed_by plan (Some []) = Ok None
@@ -39,8 +40,10 @@ resumed_by plan (Some (b ∷ bytes)) =
     result_map_both (λ s. s) saved_text (saved_in (b ∷ bytes)) >>= λ s.
     unwrap_or (option_map (λ why. Err (resume_text why)) (resume_fault plan s)) (Ok (Some s))
 
--- What is saved in a store, for a farm of the plan: what it is resumed from, or the text of the first fault. Where the store tells, it is by what stands there; and else by what it answered
-pub record IsSavedIn (at : Outside StoreTold) (plan : FarmPlan) (says : Result (Option Saving) (Option (List ℕ))) : Type 0 where
+-- What is saved in a store, for a farm of the plan: what it is resumed from, or the text of the
+-- first fault. Where the store tells, it is by what stands there; and else by what it answered
+pub record IsSavedIn (at : Outside StoreTold) (plan : FarmPlan)
+    (says : Result (Option Saving) (Option (List ℕ))) : Type 0 where
   pub found : Option (List ℕ)
   pub stands : IfSome at.told (λ t. found ≡ t.content saved_path)
   pub said : resumed_by plan found ≡ says
@@ -61,26 +64,39 @@ abbrev pub HasEmptied : Bool → Outside StoreTold → Outside StoreTold → Typ
 HasEmptied false at at' = at' ≡ at
 HasEmptied true at at' = StorePuts at at' saved_path [] (Ok tt)
 
--- A farm of the plan was begun over the store, and nothing has happened to it since; `resume` says whether it is to resume
-pub record HasBegun {D : Type 0} (state : D → Outside StoreTold) (plan : FarmPlan) (resume : Bool) (store : D) (farm : FarmSeen D) : Type 0 where
+-- A farm of the plan was begun over the store, and nothing has happened to it since; `resume` says
+-- whether it is to resume
+pub record HasBegun {D : Type 0} (state : D → Outside StoreTold) (plan : FarmPlan) (resume : Bool)
+    (store : D) (farm : FarmSeen D) : Type 0 where
   pub plan_is : farm.plan ≡ plan
   pub resumes : ResumesFrom (state store) plan resume farm.saved
   -- its store as it was at the beginning shows what the store showed; what it shows now
   pub first_shows : state farm.first ≡ state store
   pub emptied : HasEmptied resume (state store) (state farm.store)
   -- it stands for what it was resumed from
-  pub stands : (store_tells : Bool) → (store_tells ≡ true → Tells (state farm.first) farm.plan farm.saved) → StandsFor state store_tells farm (past (lasting_of state farm) [])
+  pub stands : (store_tells : Bool)
+      → (store_tells ≡ true → Tells (state farm.first) farm.plan farm.saved)
+      → StandsFor state store_tells farm (past (lasting_of state farm) [])
 
--- Why none was begun, and what the store shows then. Refused, by the line of the first fault of what is saved; StoreFailed, where what is saved could not be had, or could not be emptied; or NoMemory. But for the call that failed the store shows what it showed
+-- Why none was begun, and what the store shows then. Refused, by the line of the first fault of
+-- what is saved; StoreFailed, where what is saved could not be had, or could not be emptied; or
+-- NoMemory. But for the call that failed the store shows what it showed
 abbrev pub CannotBegin : Outside StoreTold → FarmPlan → Bool → Outside StoreTold → Stop → Type 0
 CannotBegin at plan resume at' (stop.Refused line) =
-    (resume ≡ true) × (why : Option (List ℕ)) × IsSavedIn at plan (Err why) × RefusesFor why line × (at' ≡ at)
+    (resume ≡ true) × (why : Option (List ℕ)) × IsSavedIn at plan (Err why) × RefusesFor why line
+    × (at' ≡ at)
 CannotBegin at plan resume at' stop.StoreFailed =
-    (resume ≡ true) × (Gets whole at at' saved_path (Err Failed) ⊎ ((saved : Option Saving) × IsSavedIn at plan (Ok saved) × StorePuts at at' saved_path [] (Err Failed)))
+    (resume ≡ true) × (Gets whole at at' saved_path (Err Failed)
+    ⊎ ((saved : Option Saving) × IsSavedIn at plan (Ok saved)
+    × StorePuts at at' saved_path [] (Err Failed)))
 CannotBegin at plan resume at' stop.NoMemory = at' ≡ at
 CannotBegin at plan resume at' other = ⊥
 
--- A farm of the plan was begun over the store, which may go on; or the store is handed back, and why
-abbrev pub Begins : {D : Type 0} → (D → Outside StoreTold) → FarmPlan → Bool → D → Result (FarmSeen D) (D × Stop) → Type 0
-Begins state plan resume store (Ok farm) = HasBegun state plan resume store farm × IsAfter state farm []
-Begins state plan resume store (Err back) = CannotBegin (state store) plan resume (state back.0) back.1
+-- A farm of the plan was begun over the store, which may go on; or the store is handed back, and
+-- why
+abbrev pub Begins : {D : Type 0} → (D → Outside StoreTold) → FarmPlan → Bool → D
+    → Result (FarmSeen D) (D × Stop) → Type 0
+Begins state plan resume store (Ok farm) =
+    HasBegun state plan resume store farm × IsAfter state farm []
+Begins state plan resume store (Err back) =
+    CannotBegin (state store) plan resume (state back.0) back.1

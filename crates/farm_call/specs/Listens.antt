@@ -19,7 +19,8 @@ listen_end (Ok done) = Ok tt
 listen_end (Err why) = Err (stop_of why)
 
 -- one listen at the address: what the ports show before and after it
-pub record ListenEnds (address : List ℕ) (old new : Outside PortsTold) (end : Result (Unit {0}) Stop) : Type 0 where
+pub record ListenEnds (address : List ℕ) (old new : Outside PortsTold)
+    (end : Result (Unit {0}) Stop) : Type 0 where
   pub answer : Result (Unit {0}) PortFault
   pub told : port.Listens address answer old.told new.told
   pub counts : ListenCounts old.faults new.faults answer
@@ -34,7 +35,8 @@ abbrev pub Untouched : List ListenPlace → Type 0
 Untouched [] = Unit {0}
 Untouched (p ∷ ps) = (p.2 ≡ p.1) × Untouched ps
 
--- what comes after a listen that ended so: the next ones, or nothing, and then this is the end of all
+-- what comes after a listen that ended so: the next ones, or nothing, and then this is the end of
+-- all
 abbrev pub After : Result (Unit {0}) Stop → Result (Unit {0}) Stop → Type 0 → Type 0 → Type 0
 After (Ok done) end next none = next
 After (Err why) end next none = none × (end ≡ Err why)
@@ -42,4 +44,6 @@ After (Err why) end next none = none × (end ≡ Err why)
 -- Each is listened on at its address, in this order, and the first that does not listen is the last
 abbrev pub Listening : List ListenPlace → Result (Unit {0}) Stop → Type 0
 Listening [] end = end ≡ Ok tt
-Listening (p ∷ ps) end = (first : Result (Unit {0}) Stop) × ListenEnds p.0 p.1 p.2 first × After first end (Listening ps end) (Untouched ps)
+Listening (p ∷ ps) end =
+    (first : Result (Unit {0}) Stop) × ListenEnds p.0 p.1 p.2 first
+    × After first end (Listening ps end) (Untouched ps)

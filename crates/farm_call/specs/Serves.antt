@@ -24,8 +24,10 @@ abbrev pub address_of : Option (List ℕ) → List ℕ
 address_of (Some address) = address
 address_of None = []
 
--- the ports that are listened on, in this order: each with its address, and what it shows before and after
-abbrev pub places : Config → EachFront (Outside PortsTold) → EachFront (Outside PortsTold) → List ListenPlace
+-- the ports that are listened on, in this order: each with its address, and what it shows before
+-- and after
+abbrev pub places : Config → EachFront (Outside PortsTold) → EachFront (Outside PortsTold)
+    → List ListenPlace
 places config old new =
     (address_of config.renderd, old.renderd, new.renderd)
     ∷ (address_of config.tiles, old.tiles, new.tiles)
@@ -41,7 +43,8 @@ fronts_of done = done.renderd ∷ done.tiles ∷ done.control ∷ []
 abbrev pub end_of : FrontDone → FrontEnd
 end_of done = done.end
 
--- whether the run itself or a worker met that all turns were drawn: the run has not all its own entries, or a worker ended worn
+-- whether the run itself or a worker met that all turns were drawn: the run has not all its own
+-- entries, or a worker ended worn
 abbrev pub is_worn_out : Ends → Bool
 is_worn_out ends = ends.worn || not ends.stopped || is_none ends.tally
 
@@ -51,17 +54,23 @@ is_worn_out ends = ends.worn || not ends.stopped || is_none ends.tally
 abbrev pub ClosedFarm : Type 0 → Type 0
 ClosedFarm D = FarmSeen D × List (ℕ × Entry)
 
--- all that happened to the farm, the newest entry first: what it was resumed from, replayed, and then the entries of
+-- all that happened to the farm, the newest entry first: what it was resumed from, replayed, and
+-- then the entries of
 -- this run
-abbrev pub whole_history : {D : Type 0} → (D → Outside StoreTold) → FarmSeen D → List (ℕ × Entry) → List Entry
+abbrev pub whole_history : {D : Type 0} → (D → Outside StoreTold) → FarmSeen D → List (ℕ × Entry)
+    → List Entry
 whole_history state farm turns = past (lasting_of state farm) turns
 
 module _ {D : Type 0} (state : D → Outside StoreTold) (s : ServeInputs) (store : D) where
-  -- Why no actor was started: no farm was begun, and then no port was listened on; or a farm was, whose store is left, and
+  -- Why no actor was started: no farm was begun, and then no port was listened on; or a farm was,
+  -- whose store is left, and
   -- a port could not be listened on, or memory was wanting after that
-  abbrev pub WhyNot : D → EachFront (Outside PortsTold) → EachFront (Outside PortsTold) → Stop → Type 0
+  abbrev pub WhyNot : D → EachFront (Outside PortsTold) → EachFront (Outside PortsTold) → Stop
+      → Type 0
   WhyNot store' ports ports' why =
-      (CannotBegin (state store) s.inputs.plan s.config.resume (state store') why × (ports' ≡ ports))
-      ⊎ ((farm : FarmSeen D) × HasBegun state s.inputs.plan s.config.resume store farm × (store' ≡ farm.store)
+      (CannotBegin (state store) s.inputs.plan s.config.resume (state store') why
+      × (ports' ≡ ports))
+      ⊎ ((farm : FarmSeen D) × HasBegun state s.inputs.plan s.config.resume store farm
+      × (store' ≡ farm.store)
       × (Listening (places s.config ports ports') (Err why)
       ⊎ (Listening (places s.config ports ports') (Ok tt) × (why ≡ stop.NoMemory))))

@@ -1,17 +1,14 @@
 //! The top call.
-ghost use Rattle.std.specs.Prelude.{◌≡◌, [], map, string_bytes};
-ghost use Rattle.exit_status.specs.Ends.{EndsWith};
-ghost use Rattle.farm_files.specs.inner.Runs as works;
-ghost use Rattle.farm_runs.specs.Actors.{three};
+ghost use Rattle.std.specs.Prelude.{◌≡◌, [], IfOk, map, string_bytes};
+ghost use Rattle.farm_runs.specs.Actors.{each_port, three};
 ghost use Rattle.farm_call.specs.declared.left.Left.TheVariants.{Store};
-ghost use Rattle.farm_call.specs.Words.{Asks};
 ghost use Rattle.farm_call.specs.Keeps.{Keeps};
-ghost use Rattle.farm_call.specs.inner.Works.{Does, over};
-ghost use Rattle.farm_call.specs.inner.Runs.{IsSound, Runs};
+ghost use Rattle.farm_call.specs.inner.Serving.{left_by, over};
+ghost use Rattle.farm_call.specs.inner.Runs.{IsSound, RunsRead};
 
 use crate::ends::FarmEnd;
 use crate::left::{Done, Left};
-use crate::serve::serve;
+use crate::serve::serve_config;
 use exit_status::{Stop, report};
 use farm_base::{Bell, Files, Sink};
 use farm_words::{Command, WordsFault, read_words};
@@ -81,45 +78,8 @@ pub fn farm_main<
               (P.state ports.new.control);
         }) }
 {
-    done_and_told(rt, alloc, words, files, out, err, store, ports, gate)
-}
-
-// Does what the words ask for, and tells of its end: all that the top call promises is shown of
-// this.
-fn done_and_told<
-    R: Threads + Wait + Clock + Sync,
-    F: Files,
-    O: Sink,
-    E: Sink,
-    D: TileStore + Send,
-    P: Ports + Send,
-    B: Bell + Send + Sync,
-    G: Stage + Sync,
->(
-    rt: &R,
-    alloc: Global,
-    words: &[String],
-    files: &mut F,
-    out: &mut O,
-    err: &mut E,
-    store: D,
-    ports: &mut ThreePorts<P, B>,
-    gate: &G,
-) -> FarmEnd<D>
-    ensures { EndsWith (works.Runs (Asks (map string_bytes words.now)) (Does D.state)
-        (F.state files.old) (F.state files.new)
-        (over (O.state out.old) store (three (P.state ports.old.renderd) (P.state ports.old.tiles)
-        (P.state ports.old.control)))
-        (record {
-          out = O.state out.new;
-          left = result.left;
-          fronts = result.fronts.items;
-          ports = three (P.state ports.new.renderd) (P.state ports.new.tiles)
-              (P.state ports.new.control);
-        }))
-        (E.state err.old) (E.state err.new) result.status }
-{
-    let done = command(rt, alloc, words, files, out, store, ports, gate);
+    let read = read_words(alloc, words);
+    let done = do_command(rt, alloc, read, files, out, store, ports, gate);
     let status = report(err, &done.end);
     FarmEnd {
         status,
@@ -140,7 +100,7 @@ fn stored<D: TileStore>(alloc: Global, end: Result<(), Stop>, store: D) -> Done<
     }
 }
 
-fn command<
+fn do_command<
     R: Threads + Wait + Clock + Sync,
     F: Files,
     O: Sink,
@@ -151,64 +111,20 @@ fn command<
 >(
     rt: &R,
     alloc: Global,
-    words: &[String],
+    read: Result<Command, WordsFault>,
     files: &mut F,
     out: &mut O,
     store: D,
     ports: &mut ThreePorts<P, B>,
     gate: &G,
 ) -> Done<D>
-    ensures { works.Runs (Asks (map string_bytes words.now)) (Does D.state) (F.state files.old)
-        (F.state files.new)
-        (over (O.state out.old) store (three (P.state ports.old.renderd) (P.state ports.old.tiles)
-        (P.state ports.old.control)))
-        (record {
-          out = O.state out.new;
-          left = result.left;
-          fronts = result.fronts.items;
-          ports = three (P.state ports.new.renderd) (P.state ports.new.tiles)
-              (P.state ports.new.control);
-        }) result.end }
+    requires { IfOk read (λ command. IsSound command) }
+    ensures { RunsRead D.state read (F.state files.old) (F.state files.new) store
+        (over (O.state out.old) store (each_port P.state ports.old))
+        (left_by (O.state out.new) result (each_port P.state ports.new)) result.end }
 {
-    match read_words(alloc, words) {
-        Ok(command) => run(rt, alloc, command, files, out, store, ports, gate),
-        Err(WordsFault::Refused) => stored(alloc, Err(Stop::Words), store),
-        Err(WordsFault::NoMemory) => stored(alloc, Err(Stop::NoMemory), store),
-    }
-}
-
-fn run<
-    R: Threads + Wait + Clock + Sync,
-    F: Files,
-    O: Sink,
-    D: TileStore + Send,
-    P: Ports + Send,
-    B: Bell + Send + Sync,
-    G: Stage + Sync,
->(
-    rt: &R,
-    alloc: Global,
-    command: Command,
-    files: &mut F,
-    out: &mut O,
-    store: D,
-    ports: &mut ThreePorts<P, B>,
-    gate: &G,
-) -> Done<D>
-    requires { IsSound command }
-    ensures { Runs D.state command (F.state files.old) (F.state files.new) store
-        (over (O.state out.old) store (three (P.state ports.old.renderd) (P.state ports.old.tiles)
-        (P.state ports.old.control)))
-        (record {
-          out = O.state out.new;
-          left = result.left;
-          fronts = result.fronts.items;
-          ports = three (P.state ports.new.renderd) (P.state ports.new.tiles)
-              (P.state ports.new.control);
-        }) result.end }
-{
-    match command {
-        Command::Render(style, data, size, tile) => {
+    match read {
+        Ok(Command::Render(style, data, size, tile)) => {
             let asked = RenderWords {
                 style: style.as_str(),
                 data_file: data.as_str(),
@@ -218,18 +134,22 @@ fn run<
             let end = render(alloc, asked, files, out);
             stored(alloc, end, store)
         }
-        Command::Script(config, lines) => {
+        Ok(Command::Script(config, lines)) => {
             let (end, store) = script(alloc, config.as_str(), lines.as_str(), files, out, store);
             stored(alloc, end, store)
         }
-        Command::Serve(config) => serve(rt, alloc, config.as_str(), files, out, store, ports, gate),
-        Command::Load(seed, features) => {
+        Ok(Command::Serve(config)) => {
+            serve_config(rt, alloc, config.as_str(), files, out, store, ports, gate)
+        }
+        Ok(Command::Load(seed, features)) => {
             let (end, store) = load(alloc, seed, features, out, store);
             stored(alloc, end, store)
         }
-        Command::Meta(file) => {
+        Ok(Command::Meta(file)) => {
             let end = meta(alloc, file.as_str(), files, out);
             stored(alloc, end, store)
         }
+        Err(WordsFault::Refused) => stored(alloc, Err(Stop::Words), store),
+        Err(WordsFault::NoMemory) => stored(alloc, Err(Stop::NoMemory), store),
     }
 }

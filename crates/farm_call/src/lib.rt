@@ -7,7 +7,7 @@
 //! handed in, or the farm that was served with its history: one record of what it was handed and what it left
 //! (`Keeps`). Of a farm that was served, the headline and eight points, each a field; the statuses 0 to 8 with their
 //! causes, 0 to 3 both ways but for want of memory, and the lines on standard error; with 4 a count of faults rose; 0
-//! or 5 where nothing is wrong (`docs/believe/promise.md` tells of it). Inside, `serve`: the files are read, a farm
+//! or 5 where nothing is wrong (`docs/believe/promise.md` tells of it). Inside, `serve_config`: the files are read, a farm
 //! is begun, its ports listen, three fronts serve it and its workers draw until it is stopped, and it is wound up
 //! (`Serves`: either no actor was started, and why, or the farm has served). Before a farm serves, `begin`: a farm of a
 //! plan over a store, begun anew or by what is saved there, or why not, and what the store shows then (`HasBegun`,
@@ -25,7 +25,6 @@ mod call;
 mod counts;
 mod ending;
 mod ends;
-mod fronts;
 mod left;
 mod listens;
 mod reasons;

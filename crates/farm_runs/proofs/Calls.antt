@@ -13,9 +13,10 @@ use Rattle.render_workers.specs.declared.worker.WorkEnd.{WorkEnd}
 use Rattle.turn_cell.proofs.Logs.{starts_through}
 use Rattle.farm_runs.specs.declared.each_front.EachFront.{EachFront}
 use Rattle.farm_runs.specs.declared.pool.Actor.{Actor}
+use Rattle.farm_runs.specs.declared.together.FrontSeats.{FrontSeats}
 use Rattle.farm_runs.specs.declared.together.RunSeats.{RunSeats}
 use Rattle.front_leaves.specs.Kinds.{Leaving}
-use Rattle.farm_runs.specs.Actors.{HasServed, HasWorked, IsFrontSeat, IsReady, HaveServed}
+use Rattle.farm_runs.specs.Actors.{HasServed, HasWorked, IsFrontSeat, IsReady, AreStanding, HaveServed}
 use Rattle.farm_runs.specs.Promise.{is_worker_worn}
 use Rattle.farm_runs.specs.inner.Chain.{first_seat_after, notes, ends_in, Numbered, IsStart, IsSet, HasLeft, IsSpent, Ran}
 use Rattle.farm_runs.proofs.Gathering.{each_left, each_right, gathered_first, gathered_splits, gathered_joined, notes_length}
@@ -78,6 +79,12 @@ module _ {T : Type 0} (made : Made T) where
 
   has_left : (n : ℕ) (l : Leaving) (v w : Sat) (t u : Outside PortsTold) (d : FrontDone) → IsFrontSeat made n v → HasServed made l v w t u d → HasLeft made (n + 1) l t u d w
   has_left n l v w t u d front_seat s = record { seat = s.seat; number = s.same.0 ∙ front_seat.number; left = s.left }
+
+  -- the numbers of the fronts may be said otherwise
+  pub standing_at : (n m k : ℕ) (seats : FrontSeats Sat) → n ≡ 0 → m ≡ 1 → k ≡ 2 → AreStanding made 0 1 2 seats → AreStanding made n m k seats
+  standing_at n m k seats one two last s =
+      subst (λ (x : ℕ). AreStanding made x m k seats) (sym one)
+      (subst (λ (x : ℕ). AreStanding made 0 x k seats) (sym two) (subst (λ (x : ℕ). AreStanding made 0 1 x seats) (sym last) s))
 
   same_some : {X : Type 0} (x y : X) → Some x ≡ Some y → x ≡ y
   same_some x y is = cc

@@ -18,11 +18,17 @@ pub struct Fronts<F, G, H> {
     pub control: H,
 }
 
-/// Who takes part in a run beside the workers: the fronts, and the barrier at which all actors begin. It also
-/// has what they take memory from.
+/// What the actors of a run begin with: the barrier at which all of them begin, and what they take
+/// memory from.
+#[derive(Drop)]
+pub struct RunStart {
+    pub barrier: StartBarrier,
+    pub alloc: Global,
+}
+
+/// Who takes part in a run beside the workers, which are the fronts, and what all begin with.
 #[derive(Drop)]
 pub struct RunActors<F, G, H> {
     pub fronts: Fronts<F, G, H>,
-    pub barrier: StartBarrier,
-    pub alloc: Global,
+    pub start: RunStart,
 }

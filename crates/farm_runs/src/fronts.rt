@@ -7,11 +7,10 @@ ghost use Rattle.farm_shared.specs.Shared.{maps_of};
 ghost use Rattle.farm_shared.specs.Seats.{plain};
 ghost use Rattle.turn_cell.specs.SeatStates.{IsSeatOf, Knows, SameSeat};
 
-use crate::barrier::StartBarrier;
 use crate::each_front::{EachFront, RunActors};
-use crate::serving::Serving;
+use crate::serving::FrontServing;
 use farm_base::{Bell, Bells};
-use farm_shared::{Alarms, Seat, SharedFarm, cross};
+use farm_shared::{Seat, SharedFarm, cross};
 use port_events::{FrontDone, FrontEnd, Ports};
 use std::alloc::Global;
 use std::rt::Clock;
@@ -19,9 +18,9 @@ use std::sync::Wait;
 use std::thread::{Threads, join_mut};
 use tile_store::TileStore;
 
-// A front that is not begun stops the farm, and ends for want of memory.
+/// A front that is not begun stops the farm, and ends for want of memory.
 #[tactic(auto, using(crate::proofs::Acting::stopped, crate::proofs::Acting::worn))]
-fn turn_away<R: Wait, D: TileStore>(
+pub fn turn_away<R: Wait, D: TileStore>(
     rt: &R,
     alloc: Global,
     farm: &SharedFarm<D>,
@@ -44,137 +43,13 @@ fn turn_away<R: Wait, D: TileStore>(
     }
 }
 
-// A front in its thread: it serves where all actors have begun. When it has ended all are woken.
-fn serve_front<R: Wait + Clock, D: TileStore, F: Serving, P: Ports, B: Bell>(
-    rt: &R,
-    alloc: Global,
-    front: &F,
-    farm: &SharedFarm<D>,
-    seat: &mut Seat<D>,
-    ports: &mut P,
-    barrier: &StartBarrier,
-    bells: &Bells<B>,
-) -> FrontDone
-    requires { IsFrontSeat farm.now (F.number front.now) seat.old }
-    ensures { HasServed farm.now (F.leaves front.now (maps_of farm.now)) seat.old seat.new
-        (P.state ports.old) (P.state ports.new) result }
-{
-    let alarms = Alarms {
-        workers: barrier.sleepers.as_slice(),
-        bells,
-    };
-    let done = if barrier.begin(rt) {
-        front.serve(rt, alloc, farm, seat, ports, &alarms)
-    } else {
-        turn_away(rt, alloc, farm, seat)
-    };
-    alarms.ring_all();
-    done
-}
-
-fn serve_renderd<
-    R: Wait + Clock,
-    D: TileStore,
-    F: Serving,
-    G: Serving,
-    H: Serving,
-    P: Ports,
-    B: Bell,
->(
-    rt: &R,
-    actors: &RunActors<F, G, H>,
-    farm: &SharedFarm<D>,
-    seat: &mut Seat<D>,
-    ports: &mut P,
-    bells: &Bells<B>,
-) -> FrontDone
-    requires { IsFrontSeat farm.now (F.number actors.now.fronts.renderd) seat.old }
-    ensures { HasServed farm.now (F.leaves actors.now.fronts.renderd (maps_of farm.now)) seat.old
-        seat.new (P.state ports.old) (P.state ports.new) result }
-{
-    serve_front(
-        rt,
-        actors.alloc,
-        &actors.fronts.renderd,
-        farm,
-        seat,
-        ports,
-        &actors.barrier,
-        bells,
-    )
-}
-
-fn serve_tiles<
-    R: Wait + Clock,
-    D: TileStore,
-    F: Serving,
-    G: Serving,
-    H: Serving,
-    P: Ports,
-    B: Bell,
->(
-    rt: &R,
-    actors: &RunActors<F, G, H>,
-    farm: &SharedFarm<D>,
-    seat: &mut Seat<D>,
-    ports: &mut P,
-    bells: &Bells<B>,
-) -> FrontDone
-    requires { IsFrontSeat farm.now (G.number actors.now.fronts.tiles) seat.old }
-    ensures { HasServed farm.now (G.leaves actors.now.fronts.tiles (maps_of farm.now)) seat.old
-        seat.new (P.state ports.old) (P.state ports.new) result }
-{
-    serve_front(
-        rt,
-        actors.alloc,
-        &actors.fronts.tiles,
-        farm,
-        seat,
-        ports,
-        &actors.barrier,
-        bells,
-    )
-}
-
-fn serve_control<
-    R: Wait + Clock,
-    D: TileStore,
-    F: Serving,
-    G: Serving,
-    H: Serving,
-    P: Ports,
-    B: Bell,
->(
-    rt: &R,
-    actors: &RunActors<F, G, H>,
-    farm: &SharedFarm<D>,
-    seat: &mut Seat<D>,
-    ports: &mut P,
-    bells: &Bells<B>,
-) -> FrontDone
-    requires { IsFrontSeat farm.now (H.number actors.now.fronts.control) seat.old }
-    ensures { HasServed farm.now (H.leaves actors.now.fronts.control (maps_of farm.now)) seat.old
-        seat.new (P.state ports.old) (P.state ports.new) result }
-{
-    serve_front(
-        rt,
-        actors.alloc,
-        &actors.fronts.control,
-        farm,
-        seat,
-        ports,
-        &actors.barrier,
-        bells,
-    )
-}
-
 /// The three fronts, each in a thread of its own, through its own seat and on its own ports.
 pub fn serve_fronts<
     R: Threads + Wait + Clock + Sync,
     D: TileStore + Send,
-    F: Serving + Sync,
-    G: Serving + Sync,
-    H: Serving + Sync,
+    F: FrontServing + Sync,
+    G: FrontServing + Sync,
+    H: FrontServing + Sync,
     P: Ports + Send,
     B: Bell + Sync,
 >(
@@ -187,57 +62,86 @@ pub fn serve_fronts<
     r: &mut P,
     bells: &Bells<B>,
 ) -> EachFront<FrontDone>
-    requires renderd { IsFrontSeat farm.now (F.number actors.now.fronts.renderd) seats.old.renderd }
-    requires tiles { IsFrontSeat farm.now (G.number actors.now.fronts.tiles) seats.old.tiles }
-    requires control { IsFrontSeat farm.now (H.number actors.now.fronts.control) seats.old.control }
-    ensures renderd { HasServed farm.now (F.leaves actors.now.fronts.renderd (maps_of farm.now))
+    requires renderd { IsFrontSeat farm.now
+        (F.number actors.now.fronts.renderd (maps_of farm.now)) seats.old.renderd }
+    requires tiles { IsFrontSeat farm.now
+        (G.number actors.now.fronts.tiles (maps_of farm.now)) seats.old.tiles }
+    requires control { IsFrontSeat farm.now
+        (H.number actors.now.fronts.control (maps_of farm.now)) seats.old.control }
+    ensures renderd { HasServed farm.now
+        (F.leaves actors.now.fronts.renderd (maps_of farm.now))
         seats.old.renderd seats.new.renderd (P.state p.old) (P.state p.new) result.renderd }
     ensures tiles { HasServed farm.now (G.leaves actors.now.fronts.tiles (maps_of farm.now))
         seats.old.tiles seats.new.tiles (P.state q.old) (P.state q.new) result.tiles }
-    ensures control { HasServed farm.now (H.leaves actors.now.fronts.control (maps_of farm.now))
+    ensures control { HasServed farm.now
+        (H.leaves actors.now.fronts.control (maps_of farm.now))
         seats.old.control seats.new.control (P.state r.old) (P.state r.new) result.control }
 {
     cross::<D>();
     let one = &mut seats.renderd;
     let two = &mut seats.tiles;
     let three = &mut seats.control;
+    let start = &actors.start;
     let (renderd, (tiles, control)) = join_mut(
         rt,
         &mut || -> FrontDone
-            requires { IsFrontSeat farm.now (F.number actors.now.fronts.renderd) one.now }
+            requires { IsFrontSeat farm.now
+                (F.number actors.now.fronts.renderd (maps_of farm.now)) one.now }
             ensures { HasServed farm.entry.now
-                (F.leaves actors.entry.now.fronts.renderd (maps_of farm.entry.now)) one.entry.now
+                (F.leaves actors.entry.now.fronts.renderd (maps_of farm.entry.now))
+                one.entry.now
                 one.exit.now (P.state p.entry.now) (P.state p.exit.now) result }
-        { serve_renderd(rt, actors, farm, one, p, bells) },
+        {
+            actors
+                .fronts
+                .renderd
+                .serve_front(rt, start, farm, one, p, bells)
+        },
         &mut || -> (FrontDone, FrontDone)
             requires { IsSync R.row × IsSync B.row × IsSend P.row × IsSend D.row × IsSync F.row
                 × IsSync G.row × IsSync H.row
-                × IsFrontSeat farm.now (G.number actors.now.fronts.tiles) two.now
-                × IsFrontSeat farm.now (H.number actors.now.fronts.control) three.now }
+                × IsFrontSeat farm.now
+                (G.number actors.now.fronts.tiles (maps_of farm.now)) two.now
+                × IsFrontSeat farm.now
+                (H.number actors.now.fronts.control (maps_of farm.now)) three.now }
             ensures { HasServed farm.entry.now
-                (G.leaves actors.entry.now.fronts.tiles (maps_of farm.entry.now)) two.entry.now
+                (G.leaves actors.entry.now.fronts.tiles (maps_of farm.entry.now))
+                two.entry.now
                 two.exit.now (P.state q.entry.now) (P.state q.exit.now) result.0
                 × HasServed farm.entry.now
-                (H.leaves actors.entry.now.fronts.control (maps_of farm.entry.now)) three.entry.now
+                (H.leaves actors.entry.now.fronts.control (maps_of farm.entry.now))
+                three.entry.now
                 three.exit.now (P.state r.entry.now) (P.state r.exit.now) result.1 }
         {
             cross::<D>();
             join_mut(
                 rt,
                 &mut || -> FrontDone
-                    requires { IsFrontSeat farm.now (G.number actors.now.fronts.tiles) two.now }
+                    requires { IsFrontSeat farm.now
+                        (G.number actors.now.fronts.tiles (maps_of farm.now)) two.now }
                     ensures { HasServed farm.entry.now
                         (G.leaves actors.entry.now.fronts.tiles (maps_of farm.entry.now))
                         two.entry.now two.exit.now (P.state q.entry.now)
                         (P.state q.exit.now) result }
-                { serve_tiles(rt, actors, farm, two, q, bells) },
+                {
+                    actors
+                        .fronts
+                        .tiles
+                        .serve_front(rt, start, farm, two, q, bells)
+                },
                 &mut || -> FrontDone
-                    requires { IsFrontSeat farm.now (H.number actors.now.fronts.control) three.now }
+                    requires { IsFrontSeat farm.now
+                        (H.number actors.now.fronts.control (maps_of farm.now)) three.now }
                     ensures { HasServed farm.entry.now
                         (H.leaves actors.entry.now.fronts.control (maps_of farm.entry.now))
                         three.entry.now three.exit.now (P.state r.entry.now)
                         (P.state r.exit.now) result }
-                { serve_control(rt, actors, farm, three, r, bells) },
+                {
+                    actors
+                        .fronts
+                        .control
+                        .serve_front(rt, start, farm, three, r, bells)
+                },
             )
         },
     );

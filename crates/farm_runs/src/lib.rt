@@ -7,10 +7,11 @@
 //! very moment, where every update was a renew (`sent_now`); whose each entry is; what each front and worker did; no
 //! drawing under way at the end; who stopped the farm; the counts as the last entry. What is missing of it is told, and
 //! it is missing only where all of 2^62 turns were drawn. Where memory is wanting before the threads start the farm
-//! comes back, and no port was touched. `docs/believe/promise.md`; `run`, for any three fronts (`Serving`), any farm,
-//! ports and gate: each front leaves what it may leave, through its own seat and on its own ports; each worker's
-//! entries are its rounds; the fronts' seats are joined before the run's own Stop. A front or worker that is not begun,
-//! since a thread is wanting, leaves nothing but a front's Stop; when that is so is in no contract.
+//! comes back, and no port was touched. `docs/believe/promise.md`; `run_actors`, for any three fronts of
+//! `front_loop`, any farm, ports and gate: each front leaves what a front with its rules leaves (`FrontLeaves`),
+//! through its own seat and on its own ports; each worker's entries are its rounds; the fronts' seats are joined before
+//! the run's own Stop. A front or worker that is not begun, since a thread is wanting, leaves nothing but a front's
+//! Stop; when that is so is in no contract.
 #![tactic(auto)]
 
 mod barrier;
@@ -24,8 +25,8 @@ mod serving;
 mod together;
 
 pub use barrier::StartBarrier;
-pub use each_front::{EachFront, Fronts, RunActors};
+pub use each_front::{EachFront, Fronts, RunActors, RunStart};
 pub use pool::Actor;
 pub use running::{Run, run_farm};
-pub use serving::Serving;
+pub use serving::{FrontServing, Threaded};
 pub use together::{FrontSeats, RunSeats};

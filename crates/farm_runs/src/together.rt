@@ -5,13 +5,13 @@ ghost use Rattle.farm_history.specs.Entries.{Entry};
 ghost use Rattle.turn_cell.specs.SeatStates.{SeatState};
 ghost use Rattle.farm_shared.specs.declared.turned.Turned.{Turned};
 ghost use Rattle.farm_runs.specs.declared.pool.Actor.{Actor};
-ghost use Rattle.farm_runs.specs.Actors.{AreStanding, HasWorked, HaveServed, IsReady, three};
+ghost use Rattle.farm_runs.specs.Actors.{AreStanding, HasWorked, HaveServed, IsReady, each_port, three};
 ghost use Rattle.farm_shared.specs.Shared.{maps_of};
 
 use crate::each_front::{EachFront, RunActors};
 use crate::fronts::{end_fronts, serve_fronts};
 use crate::pool::{Actor, work_all};
-use crate::serving::Serving;
+use crate::serving::FrontServing;
 use farm_base::{Bell, Bells};
 use farm_shared::{Alarms, Seat, SharedFarm, cross};
 use port_events::{FrontDone, Ports, ThreePorts};
@@ -34,55 +34,15 @@ pub struct RunSeats<S> {
     pub pool: Vec<Actor<S>>,
 }
 
-fn serve_slot<
-    R: Threads + Wait + Clock + Sync,
-    D: TileStore + Send,
-    F: Serving + Sync,
-    G: Serving + Sync,
-    H: Serving + Sync,
-    P: Ports + Send,
-    B: Bell + Sync,
->(
-    rt: &R,
-    actors: &RunActors<F, G, H>,
-    farm: &SharedFarm<D>,
-    front_seats: &mut FrontSeats<Seat<D>>,
-    p: &mut P,
-    q: &mut P,
-    r: &mut P,
-    bells: &Bells<B>,
-) -> (EachFront<FrontDone>, bool)
-    requires { AreStanding farm.now (F.number actors.now.fronts.renderd)
-        (G.number actors.now.fronts.tiles) (H.number actors.now.fronts.control) front_seats.old }
-    ensures { HaveServed farm.now (F.leaves actors.now.fronts.renderd (maps_of farm.now))
-        (G.leaves actors.now.fronts.tiles (maps_of farm.now))
-        (H.leaves actors.now.fronts.control (maps_of farm.now)) front_seats.old front_seats.new
-        (three (P.state p.old) (P.state q.old) (P.state r.old))
-        (three (P.state p.new) (P.state q.new) (P.state r.new)) result.0 result.1 }
-{
-    let Some(seats) = front_seats.seats.take() else {
-        unreachable!()
-    };
-    let mut seats = seats;
-    let done = serve_fronts(rt, actors, farm, &mut seats, p, q, r, bells);
-    let entered = end_fronts(rt, farm, &mut front_seats.own, seats);
-    let alarms = Alarms {
-        workers: actors.barrier.sleepers.as_slice(),
-        bells,
-    };
-    alarms.ring_all();
-    (done, entered)
-}
-
 /// Runs the workers and the three fronts, each in a thread of its own and through its own seat. When the fronts have
 /// ended, their seats are joined into the first, which then stops the farm; so the workers end too. Answers what
 /// the fronts answered, and whether that Stop was entered: it is not only where all turns were drawn. It may wait.
-pub fn run<
+pub fn run_actors<
     R: Threads + Wait + Clock + Sync,
     D: TileStore + Send,
-    F: Serving + Sync,
-    G: Serving + Sync,
-    H: Serving + Sync,
+    F: FrontServing + Sync,
+    G: FrontServing + Sync,
+    H: FrontServing + Sync,
     P: Ports + Send,
     B: Bell + Send + Sync,
     T: Stage + Sync,
@@ -95,21 +55,21 @@ pub fn run<
     gate: &T,
 ) -> (EachFront<FrontDone>, bool)
     requires pool { All (λ a. IsReady farm.now a) run_seats.old.pool.items }
-    requires front_seats { AreStanding farm.now (F.number actors.now.fronts.renderd)
-        (G.number actors.now.fronts.tiles)
-        (H.number actors.now.fronts.control) run_seats.old.front_seats }
+    requires front_seats { AreStanding farm.now
+        (F.number actors.now.fronts.renderd (maps_of farm.now))
+        (G.number actors.now.fronts.tiles (maps_of farm.now))
+        (H.number actors.now.fronts.control (maps_of farm.now)) run_seats.old.front_seats }
     ensures long { length run_seats.new.pool.items ≡ length run_seats.old.pool.items }
     ensures pool { (i : ℕ) (d : Actor (SeatState (Turned D) Entry))
         → i < length run_seats.old.pool.items
         → HasWorked farm.now (slice_index_or run_seats.old.pool.items i d)
         (slice_index_or run_seats.new.pool.items i d) }
-    ensures fronts { HaveServed farm.now (F.leaves actors.now.fronts.renderd (maps_of farm.now))
+    ensures fronts { HaveServed farm.now
+        (F.leaves actors.now.fronts.renderd (maps_of farm.now))
         (G.leaves actors.now.fronts.tiles (maps_of farm.now))
         (H.leaves actors.now.fronts.control (maps_of farm.now)) run_seats.old.front_seats
         run_seats.new.front_seats
-        (three (P.state ports.old.renderd) (P.state ports.old.tiles) (P.state ports.old.control))
-        (three (P.state ports.new.renderd) (P.state ports.new.tiles) (P.state ports.new.control))
-        result.0 result.1 }
+        (each_port P.state ports.old) (each_port P.state ports.new) result.0 result.1 }
 {
     cross::<D>();
     let bells = &ports.bells;
@@ -118,8 +78,8 @@ pub fn run<
     let r = &mut ports.control;
     let pool = &mut run_seats.pool;
     let front_seats = &mut run_seats.front_seats;
-    let barrier = &actors.barrier;
-    let alloc = actors.alloc;
+    let barrier = &actors.start.barrier;
+    let alloc = actors.start.alloc;
     let (_, done) = join_mut(
         rt,
         &mut || -> ()
@@ -134,9 +94,10 @@ pub fn run<
         &mut || -> (EachFront<FrontDone>, bool)
             requires { IsSync R.row × IsSync B.row × IsSend P.row × IsSend D.row × IsSync F.row
                 × IsSync G.row × IsSync H.row
-                × AreStanding farm.now (F.number actors.now.fronts.renderd)
-                (G.number actors.now.fronts.tiles)
-                (H.number actors.now.fronts.control) front_seats.now }
+                × AreStanding farm.now
+                (F.number actors.now.fronts.renderd (maps_of farm.now))
+                (G.number actors.now.fronts.tiles (maps_of farm.now))
+                (H.number actors.now.fronts.control (maps_of farm.now)) front_seats.now }
             ensures { HaveServed farm.entry.now
                 (F.leaves actors.entry.now.fronts.renderd (maps_of farm.entry.now))
                 (G.leaves actors.entry.now.fronts.tiles (maps_of farm.entry.now))
@@ -145,7 +106,22 @@ pub fn run<
                 (three (P.state p.entry.now) (P.state q.entry.now) (P.state r.entry.now))
                 (three (P.state p.exit.now) (P.state q.exit.now) (P.state r.exit.now)) result.0
                 result.1 }
-        { serve_slot(rt, actors, farm, front_seats, p, q, r, bells) },
+        {
+            // Borrowed whole: the clauses above speak of all of it.
+            let standing = &mut *front_seats;
+            let Some(seats) = standing.seats.take() else {
+                unreachable!()
+            };
+            let mut seats = seats;
+            let done = serve_fronts(rt, actors, farm, &mut seats, p, q, r, bells);
+            let entered = end_fronts(rt, farm, &mut standing.own, seats);
+            let alarms = Alarms {
+                workers: barrier.sleepers.as_slice(),
+                bells,
+            };
+            alarms.ring_all();
+            (done, entered)
+        },
     );
     done
 }

@@ -4,7 +4,6 @@ use Rattle.std.proofs.lemmas.Bool.{eq-eqb}
 use Rattle.std.proofs.lemmas.Bool.Decides.{nat_tests}
 use Rattle.std.specs.List.{list_any}
 use Rattle.farm_base.specs.Outside.{Outside}
-use Rattle.plain_world.specs.declared.world.Tile.{Tile}
 use Rattle.farm_history.specs.declared.queues.Reply.{Reply}
 use Rattle.farm_history.specs.declared.answers.Collected.TheVariants as collected
 use Rattle.farm_history.specs.Entries.{Entry, Claim, Collect, Finish, Leave, Stop}
@@ -20,19 +19,13 @@ use Rattle.front_loop.specs.RoundRules.{RoundFits}
 use Rattle.front_loop.specs.Serving.{EndHasCause, TellsOf}
 use Rattle.port_events.specs.declared.events.PortEvent.{PortEvent}
 use Rattle.port_events.specs.declared.events.PortEvent.TheVariants as event
-use Rattle.renderd_handler.specs.Renderd.{renderd_rules}
-use Rattle.renderd_handler.proofs.Sorts as renderd
-use Rattle.control_handler.specs.Control.{control_rules}
-use Rattle.control_handler.proofs.Sorts as control
-use Rattle.http_handler.specs.Tiles.{tile_rules}
-use Rattle.http_handler.proofs.OwnEntries as tiles
 use Rattle.front_leaves.specs.Kinds.{IsOfFront, AreOfFront, IsUnbegun}
-use Rattle.front_leaves.specs.Fronts.{FrontLeaves, renderd_leaves, tiles_leave, control_leaves}
+use Rattle.front_leaves.specs.Fronts.{FrontLeaves, IsFront}
 use Rattle.farm_history.proofs.Lists.{each-join}
 
 -- Which entries are of no front, as a test.
 
-abbrev is_foreign : ℕ → Entry → Bool
+abbrev pub is_foreign : ℕ → Entry → Bool
 is_foreign n (Claim worker answer) = true
 is_foreign n (Finish ticket drawn answer) = true
 is_foreign n Stop = not (n == 2)
@@ -48,7 +41,7 @@ of_front n Stop is = two (n == 2) refl is
     two false same is = cc
 of_front n e is = tt
 
-each_of_front : (n : ℕ) (es : List Entry) → list_any (is_foreign n) es ≡ false → Each (IsOfFront n) es
+pub each_of_front : (n : ℕ) (es : List Entry) → list_any (is_foreign n) es ≡ false → Each (IsOfFront n) es
 each_of_front n [] none = tt
 each_of_front n (e ∷ es) none = go (is_foreign n e) refl (each_of_front n es) none
   where
@@ -133,14 +126,18 @@ module _ {A W : Type 0} (R : Rules A W) where
     each_own (r ∷ rs) sound =
         each_leave r.left _ (each_last r.last _ (each_reply r.event r.acts (λ c. (before rs r c).moves) r.replies _ sound.0.fits (each_asked r.event r.acts (own R rs) (each_own rs sound.1))))
 
-    kinds : (shown after : Outside PortsTold) (es : List Entry) (done : FrontDone) (worn : Bool) → FrontLeaves R shown after es done worn → AreOfFront n es done.end
-    kinds shown after es done worn left = record {
+    kinds_by : (shown after : Outside PortsTold) (es : List Entry) (done : FrontDone) (worn : Bool) → FrontLeaves R shown after es done worn → AreOfFront n es done.end
+    kinds_by shown after es done worn left = record {
       served = own R left.served.rounds;
       stop = left.served.stop;
       are = left.served.entries;
       kinds = each_own left.served.rounds left.served.sound;
       may_stop = may_stop R left.served.rounds left.served.stop worn done.end left.served.end_fits;
     }
+
+  -- and so are all entries that it leaves
+  pub kinds : (n : ℕ) → IsFront n R → (shown after : Outside PortsTold) (es : List Entry) (done : FrontDone) (worn : Bool) → FrontLeaves R shown after es done worn → AreOfFront n es done.end
+  kinds n front shown after es done worn left = kinds_by n front.acts front.behinds shown after es done worn left
 
   -- A front that was not begun.
 
@@ -184,32 +181,6 @@ module _ {A W : Type 0} (R : Rules A W) where
           no_rounds shown es [] done worn a.0 (subst (λ end. EndHasCause R end [] [] worn) (sym a.1) (a.2, refl)) is.no_rests
           (λ broken. let never = sym a.1 ∙ broken in cc) is.none_starved
 
--- The three fronts.
-
-alone : (n : ℕ) (es : List Entry) → es ≡ [] → Each (IsOfFront n) es
+-- no entries are a front's
+pub alone : (n : ℕ) (es : List Entry) → es ≡ [] → Each (IsOfFront n) es
 alone n es is = subst (Each (IsOfFront n)) (sym is) tt
-
-pub renderd_kinds : (maps : List ℕ → Option ℕ) (shown after : Outside PortsTold) (es : List Entry) (done : FrontDone) (worn : Bool) → renderd_leaves maps shown after es done worn → AreOfFront 0 es done.end
-renderd_kinds maps =
-    kinds (renderd_rules 0 maps) 0 (λ c a. each_of_front 0 _ (renderd.kinds 0 maps (is_foreign 0) (λ conn command spot answer. refl) c a))
-    (λ ms r behind fits. alone 0 behind (renderd.stands_alone 0 maps ms r behind fits))
-
-pub tiles_kinds : (maps : List ℕ → Option ℕ) (shown after : Outside PortsTold) (es : List Entry) (done : FrontDone) (worn : Bool) → tiles_leave maps shown after es done worn → AreOfFront 1 es done.end
-tiles_kinds maps =
-    kinds (tile_rules 1 maps) 1 (λ c a. tiles.each_entry (IsOfFront 1) (λ s f. tt) (λ conn command spot answer. tt) (λ s l. tt) _ a)
-    (λ ms r behind fits. tiles.each_behind (IsOfFront 1) (λ s f. tt) _ behind fits)
-
-pub control_kinds : (lists : List (List Tile)) (shown after : Outside PortsTold) (es : List Entry) (done : FrontDone) (worn : Bool) → control_leaves lists shown after es done worn → AreOfFront 2 es done.end
-control_kinds lists =
-    kinds (control_rules 2 lists) 2 (λ c a. each_of_front 2 _ (control.kinds 2 lists (is_foreign 2) none_foreign c a))
-    (λ ms r behind fits. alone 2 behind (control.stands_alone 2 lists ms r behind fits))
-  where
-    none_foreign : control.PassesNone (is_foreign 2)
-    none_foreign = record {
-      update = λ n a. refl;
-      restyle = λ n a. refl;
-      renew = λ n a. refl;
-      expire = λ t k. refl;
-      tally = λ a. refl;
-      stop = refl;
-    }

@@ -19,8 +19,8 @@ use std::sync::Wait;
 use tile_store::TileStore;
 
 /// Serves the clients of renderd's protocol until the front ends, as the front of that number: the
-/// requests of each connection are asked in order, each is answered once, and what is owed is sent. It
-/// may wait.
+/// requests of each connection are asked in order, each is answered once, and what is owed is sent.
+/// It may wait. No command makes this call: a run takes the front itself.
 pub fn serve<R: Wait, P: Ports, B: Bell, D: TileStore>(
     rt: &R,
     alloc: Global,
@@ -37,9 +37,11 @@ pub fn serve<R: Wait, P: Ports, B: Bell, D: TileStore>(
     ensures seat { IsSeatOf farm.now seat.new }
     ensures same { SameSeat seat.old seat.new }
     ensures known { Knows seat.new }
-    ensures served { FrontRun (renderd_rules front (maps_of farm.now)) (P.state ports.old).told (P.state ports.new).told
-        (plain seat.new.mine) result.end result.rests.items result.starved seat.new.worn }
-    ensures broken { result.end ≡ ended.Broken → Counted (P.state ports.old).faults (P.state ports.new).faults }
+    ensures served { FrontRun (renderd_rules front (maps_of farm.now)) (P.state ports.old).told
+        (P.state ports.new).told (plain seat.new.mine) result.end result.rests.items result.starved
+        seat.new.worn }
+    ensures broken { result.end ≡ ended.Broken
+        → Counted (P.state ports.old).faults (P.state ports.new).faults }
 {
     let adapter = FarmAdapter { farm, alarms };
     let work = Context {

@@ -18,9 +18,10 @@ use std::alloc::Global;
 use std::sync::Wait;
 use tile_store::TileStore;
 
-/// Serves tiles over HTTP until the front ends, as the front of that number; it may wait. A connection has
-/// one request: `GET` of `/NAME/Z/X/Y.ppm`, or of the same with `/status` or `/dirty` behind it. It is
-/// closed when its answer was sent whole.
+/// Serves tiles over HTTP until the front ends, as the front of that number; it may wait. A
+/// connection has one request: `GET` of `/NAME/Z/X/Y.ppm`, or of the same with `/status` or `/dirty`
+/// behind it. It is closed when its answer was sent whole. No command makes this call: a run takes
+/// the front itself.
 pub fn serve<R: Wait, P: Ports, B: Bell, D: TileStore>(
     rt: &R,
     alloc: Global,
@@ -37,9 +38,11 @@ pub fn serve<R: Wait, P: Ports, B: Bell, D: TileStore>(
     ensures seat { IsSeatOf farm.now seat.new }
     ensures same { SameSeat seat.old seat.new }
     ensures known { Knows seat.new }
-    ensures served { FrontRun (tile_rules front (maps_of farm.now)) (P.state ports.old).told (P.state ports.new).told
-        (plain seat.new.mine) result.end result.rests.items result.starved seat.new.worn }
-    ensures broken { result.end ≡ ended.Broken → Counted (P.state ports.old).faults (P.state ports.new).faults }
+    ensures served { FrontRun (tile_rules front (maps_of farm.now)) (P.state ports.old).told
+        (P.state ports.new).told (plain seat.new.mine) result.end result.rests.items result.starved
+        seat.new.worn }
+    ensures broken { result.end ≡ ended.Broken
+        → Counted (P.state ports.old).faults (P.state ports.new).faults }
 {
     let adapter = FarmAdapter { farm, alarms };
     let work = Context {

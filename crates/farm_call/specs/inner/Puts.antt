@@ -17,8 +17,11 @@ end_of (Ok done) = Ok tt
 end_of (Err fault.Failed) = Err stop.StoreFailed
 end_of (Err fault.NoMemory) = Err stop.NoMemory
 
--- the text was put: but for its store the farm is as it was, with the same history, and stands for what it stood for
-pub record PutsText {D : Type 0} (state : D → Outside StoreTold) (old new : FarmSeen D × List (ℕ × Entry)) (text : List ℕ) (end : Result (Unit {0}) Stop) : Type 0 where
+-- the text was put: but for its store the farm is as it was, with the same history, and stands for
+-- what it stood for
+pub record PutsText {D : Type 0} (state : D → Outside StoreTold)
+    (old new : FarmSeen D × List (ℕ × Entry)) (text : List ℕ)
+    (end : Result (Unit {0}) Stop) : Type 0 where
   pub answer : Result (Unit {0}) StoreFault
   pub puts : StorePuts (state old.0.store) (state new.0.store) saved_path text answer
   pub same : new ≡ (record old.0 { store = new.0.store }, old.1)

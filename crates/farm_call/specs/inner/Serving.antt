@@ -12,24 +12,37 @@ use Rattle.farm_refinement.specs.Seen.{FarmSeen}
 use Rattle.farm_runs.specs.declared.each_front.EachFront.{EachFront}
 use Rattle.farm_plan.specs.Plans.{maps_in}
 use Rattle.farm_runs.specs.Promise.{Ends, RunsWell}
-use Rattle.front_leaves.specs.Fronts.{renderd_leaves, tiles_leave, control_leaves}
+use Rattle.farm_call.specs.inner.Fronts.{renderd_leaves, tiles_leave, control_leaves}
 use Rattle.farm_call.specs.Beginnings.{HasBegun}
 use Rattle.farm_call.specs.Listens.{Listening}
 use Rattle.farm_call.specs.Endings.{why_ended, WindsUp}
 use Rattle.farm_call.specs.Serves.{places, fronts_of, end_of, is_worn_out, WhyNot}
+use Rattle.farm_call.specs.declared.left.Done.{Done}
 use Rattle.farm_call.specs.declared.left.Left.{Left}
 use Rattle.farm_call.specs.declared.left.Left.TheVariants.{Store, Farm}
 
--- what a command works on: out, the store or what is left of it, what the fronts answered, and what the ports show
+-- what a command works on: out, the store or what is left of it, what the fronts answered, and what
+-- the ports show
 pub record World (D : Type 0) : Type 0 where
   pub out : SinkAt
   pub left : Left D
   pub fronts : List FrontDone
   pub ports : EachFront (Outside PortsTold)
 
+-- out, the store and what the ports show, and no fronts
+abbrev pub over : {D : Type 0} → SinkAt → D → EachFront (Outside PortsTold) → World D
+over out store ports = record { out = out; left = Store store; fronts = []; ports = ports }
+
+-- out, what a command left, and what the ports show
+abbrev pub left_by : {D : Type 0} → SinkAt → Done D → EachFront (Outside PortsTold) → World D
+left_by out done ports =
+    record { out = out; left = done.left; fronts = done.fronts.items; ports = ports }
+
 module _ {D : Type 0} (state : D → Outside StoreTold) (s : ServeInputs) (store : D) where
-  -- **No actor was started.** Nothing was put on out and there are no fronts; the ports were listened on at most
-  pub record NotServed (store' : D) (old new : World D) (end : Result (Unit {0}) Stop) : Type 0 where
+  -- **No actor was started.** Nothing was put on out and there are no fronts; the ports were
+  -- listened on at most
+  pub record NotServed (store' : D) (old new : World D)
+      (end : Result (Unit {0}) Stop) : Type 0 where
     pub why : Stop
     pub end_is : end ≡ Err why
     pub why_not : WhyNot state s store store' old.ports new.ports why
@@ -37,7 +50,8 @@ module _ {D : Type 0} (state : D → Outside StoreTold) (s : ServeInputs) (store
     pub no_fronts : new.fronts ≡ []
 
   -- **The farm has served.** `closed` is what is left: the farm, and the history of its turns
-  pub record HasServed (closed : FarmSeen D × List (ℕ × Entry)) (old new : World D) (end : Result (Unit {0}) Stop) : Type 0 where
+  pub record HasServed (closed : FarmSeen D × List (ℕ × Entry)) (old new : World D)
+      (end : Result (Unit {0}) Stop) : Type 0 where
     -- the farm as it began, and what the ports showed when they listened
     pub first : FarmSeen D
     pub begun : HasBegun state s.inputs.plan s.config.resume store first
@@ -47,10 +61,15 @@ module _ {D : Type 0} (state : D → Outside StoreTold) (s : ServeInputs) (store
     pub last : FarmSeen D
     pub done : EachFront FrontDone
     pub ends : Ends
-    pub runs : RunsWell state first last closed.1 (renderd_leaves (maps_in s.inputs.plan)) (tiles_leave (maps_in s.inputs.plan)) (control_leaves s.inputs.lists) listening new.ports done ends
+    pub runs : RunsWell state first last closed.1 (renderd_leaves (maps_in s.inputs.plan))
+        (tiles_leave (maps_in s.inputs.plan))
+        (control_leaves s.inputs.lists) listening new.ports done ends
     pub fronts_are : new.fronts ≡ fronts_of done
-    -- and then it was saved, where it is to be, and the line of its counts was put; and so the command ends
-    pub winds : WindsUp state s.config.resume (why_ended (is_worn_out ends) (map end_of (fronts_of done))) ends.tally last closed.0 closed.1 old.out new.out end
+    -- and then it was saved, where it is to be, and the line of its counts was put; and so the
+    -- command ends
+    pub winds : WindsUp state s.config.resume
+        (why_ended (is_worn_out ends) (map end_of (fronts_of done))) ends.tally last closed.0
+        closed.1 old.out new.out end
 
   -- one of both, by what is left
   abbrev pub ServesTo : World D → World D → Result (Unit {0}) Stop → Left D → Type 0

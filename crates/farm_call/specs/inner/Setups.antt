@@ -29,7 +29,8 @@ Tells (Ok text) why = (why ≡ stop.NoMemory) ⊎ (why ≡ stop.Refused (refused
 Tells (Err wanting) why = why ≡ stop.NoMemory
 
 -- a farm was begun by what was found
-pub record BeganWith {D : Type 0} (state : D → Outside StoreTold) (plan : FarmPlan) (store : D) (found : Option (List ℕ)) (farm : FarmSeen D) : Type 0 where
+pub record BeganWith {D : Type 0} (state : D → Outside StoreTold) (plan : FarmPlan) (store : D)
+    (found : Option (List ℕ)) (farm : FarmSeen D) : Type 0 where
   pub saved : Option Saving
   pub said : resumed_by plan found ≡ Ok saved
   pub begins : Begins state plan saved store farm
@@ -37,18 +38,26 @@ pub record BeganWith {D : Type 0} (state : D → Outside StoreTold) (plan : Farm
 
 -- why none was
 abbrev pub Refuses : FarmPlan → Option (List ℕ) → Stop → Type 0
-Refuses plan found (stop.Refused line) = (why : Option (List ℕ)) × (resumed_by plan found ≡ Err why) × RefusesFor why line
+Refuses plan found (stop.Refused line) =
+    (why : Option (List ℕ)) × (resumed_by plan found ≡ Err why) × RefusesFor why line
 Refuses plan found stop.NoMemory = Unit {0}
 Refuses plan found other = ⊥
 
 -- one of both; the store comes back as it was
-abbrev pub BeganBy : {D : Type 0} → (D → Outside StoreTold) → FarmPlan → D → Option (List ℕ) → Result (FarmSeen D) (D × Stop) → Type 0
+abbrev pub BeganBy : {D : Type 0} → (D → Outside StoreTold) → FarmPlan → D → Option (List ℕ)
+    → Result (FarmSeen D) (D × Stop) → Type 0
 BeganBy state plan store found (Ok farm) = BeganWith state plan store found farm
 BeganBy state plan store found (Err back) = (back.0 ≡ store) × Refuses plan found back.1
 
--- no bytes were put in the place of what was saved: the farm is as it was but for its store; or why not
-abbrev pub Empties : {D : Type 0} → (D → Outside StoreTold) → FarmSeen D → Result (FarmSeen D) (D × Stop) → Type 0
+-- no bytes were put in the place of what was saved: the farm is as it was but for its store; or why
+-- not
+abbrev pub Empties : {D : Type 0} → (D → Outside StoreTold) → FarmSeen D
+    → Result (FarmSeen D) (D × Stop) → Type 0
 Empties state old (Ok new) =
-    StorePuts (state old.store) (state new.store) saved_path [] (Ok tt) × (new ≡ record old { store = new.store })
-    × ((store_tells : Bool) (h : List Entry) → StandsFor state store_tells old h → StandsFor state store_tells new h)
-Empties state old (Err back) = (why : StoreFault) × StorePuts (state old.store) (state back.0) saved_path [] (Err why) × (back.1 ≡ stop_of why)
+    StorePuts (state old.store) (state new.store) saved_path [] (Ok tt)
+    × (new ≡ record old { store = new.store })
+    × ((store_tells : Bool) (h : List Entry) → StandsFor state store_tells old h
+    → StandsFor state store_tells new h)
+Empties state old (Err back) =
+    (why : StoreFault) × StorePuts (state old.store) (state back.0) saved_path [] (Err why)
+    × (back.1 ≡ stop_of why)

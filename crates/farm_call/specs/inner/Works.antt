@@ -1,20 +1,14 @@
 -- What work does to the world that a call works on.
-use Rattle.std.specs.Prelude.{◌≡◌, List, [], Result}
+use Rattle.std.specs.Prelude.{◌≡◌, Result}
 use Rattle.farm_base.specs.Outside.{Outside}
 use Rattle.tile_store.specs.Stores.{StoreTold}
-use Rattle.port_events.specs.Told.{PortsTold}
-use Rattle.exit_status.specs.Ends.{SinkAt, PutsAll}
+use Rattle.exit_status.specs.Ends.{PutsAll}
 use Rattle.exit_status.specs.declared.stops.Stop.{Stop}
-use Rattle.farm_runs.specs.declared.each_front.EachFront.{EachFront}
 use Rattle.script_command.specs.Scripts.{Scripts}
 use Rattle.load_command.specs.Runs.{Loads}
-use Rattle.farm_call.specs.inner.Serving.{World, Serves}
+use Rattle.farm_call.specs.inner.Serving.{World, Serves, over}
 use Rattle.farm_call.specs.declared.left.Left.TheVariants.{Store}
 use Rattle.farm_call.specs.Call.{CallBefore, CallAfter, Work, puts, scripts, loads, serves}
-
--- out, the store and what the ports show, and no fronts
-abbrev pub over : {D : Type 0} → SinkAt → D → EachFront (Outside PortsTold) → World D
-over out store ports = record { out = out; left = Store store; fronts = []; ports = ports }
 
 -- the world of a call before it, and after it
 abbrev pub world_before : {D : Type 0} → CallBefore D → World D
@@ -28,12 +22,15 @@ abbrev pub NoFronts : {D : Type 0} → World D → World D → Type 0
 NoFronts old new = (new.fronts ≡ old.fronts) × (new.ports ≡ old.ports)
 
 -- the work is done between these two worlds, and ends so
-abbrev pub Does : {D : Type 0} → (D → Outside StoreTold) → Work → World D → World D → Result (Unit {0}) Stop → Type 0
-Does state (puts text) old new end = PutsAll old.out new.out text end × (new.left ≡ old.left) × NoFronts old new
+abbrev pub Does : {D : Type 0} → (D → Outside StoreTold) → Work → World D → World D
+    → Result (Unit {0}) Stop → Type 0
+Does state (puts text) old new end =
+    PutsAll old.out new.out text end × (new.left ≡ old.left) × NoFronts old new
 Does {D} state (scripts s) old new end =
     (store store' : D) × (old.left ≡ Store store) × (new.left ≡ Store store') × NoFronts old new
     × Scripts state s store store' old.out new.out end
 Does {D} state (loads seed n) old new end =
     (store store' : D) × (old.left ≡ Store store) × (new.left ≡ Store store') × NoFronts old new
     × Loads state seed n store store' old.out new.out end
-Does {D} state (serves s) old new end = (store : D) × (old.left ≡ Store store) × Serves state s store old new end
+Does {D} state (serves s) old new end =
+    (store : D) × (old.left ≡ Store store) × Serves state s store old new end

@@ -22,7 +22,8 @@ use Rattle.farm_runs.specs.Actors.{WorkBy, IsReady, HasEnded, AreStanding}
 
 module _ {T : Type 0} where
   -- the first seat after the workers' seats were joined into it, from the last one on
-  abbrev pub first_seat_after : SeatState T Entry → List (Actor (SeatState T Entry)) → SeatState T Entry
+  abbrev pub first_seat_after : SeatState T Entry → List (Actor (SeatState T Entry))
+      → SeatState T Entry
   first_seat_after v [] = v
   first_seat_after v (a ∷ rest) = joining (first_seat_after v rest) a.seat
 
@@ -55,7 +56,8 @@ module _ {T : Type 0} where
     pub splits : v.splits ≡ 3 + workers
 
   -- the seats of a run: the first, those of the fronts, and so many workers with theirs
-  pub record IsSet (made : Made T) (workers : ℕ) (run_seats : RunSeats (SeatState T Entry)) : Type 0 where
+  pub record IsSet (made : Made T) (workers : ℕ)
+      (run_seats : RunSeats (SeatState T Entry)) : Type 0 where
     pub own : IsStart made workers run_seats.front_seats.own
     pub standing : AreStanding made 0 1 2 run_seats.front_seats
     pub long : length run_seats.pool.items ≡ workers
@@ -63,7 +65,8 @@ module _ {T : Type 0} where
     pub numbered : Numbered 0 run_seats.pool.items
 
   -- a front's seat when it has ended
-  pub record HasLeft (made : Made T) (n : ℕ) (leaves : Leaving) (told told' : Outside PortsTold) (done : FrontDone) (v : SeatState T Entry) : Type 0 where
+  pub record HasLeft (made : Made T) (n : ℕ) (leaves : Leaving) (told told' : Outside PortsTold)
+      (done : FrontDone) (v : SeatState T Entry) : Type 0 where
     pub seat : IsSeatOf made v
     pub number : v.number ≡ n
     pub left : leaves told told' (plain v.mine) done v.worn
@@ -75,7 +78,9 @@ module _ {T : Type 0} where
     pub worn : a.end ≡ Some WorkEnd.Worn → a.seat.worn ≡ true
 
   -- what the threads left: `own` is the first seat then
-  pub record Ran (made : Made T) (leaves leaves' leaves'' : Leaving) (start own : SeatState T Entry) (pool : List (Actor (SeatState T Entry))) (told told' : EachFront (Outside PortsTold)) (done : EachFront FrontDone) (stopped : Bool) : Type 0 where
+  pub record Ran (made : Made T) (leaves leaves' leaves'' : Leaving) (start own : SeatState T Entry)
+      (pool : List (Actor (SeatState T Entry))) (told told' : EachFront (Outside PortsTold))
+      (done : EachFront FrontDone) (stopped : Bool) : Type 0 where
     pub start_is : IsStart made (length pool) start
     pub seats : EachFront (SeatState T Entry)
     pub renderd : HasLeft made 1 leaves told.renderd told'.renderd done.renderd seats.renderd
@@ -85,8 +90,11 @@ module _ {T : Type 0} where
     pub spent : Each (IsSpent made) pool
     pub numbered : Numbered 0 pool
 
--- The end of a run: `own` is the first seat after the threads, `h` the same at the closing, which leaves the farm and the history
-pub record IsEnd {D : Type 0} (state : D → Outside StoreTold) (made : Made (Turned D)) (own : SeatState (Turned D) Entry) (pool : List (Actor (SeatState (Turned D) Entry))) (tally : Option Totals) (closed : FarmSeen D × List (ℕ × Entry)) : Type 0 where
+-- The end of a run: `own` is the first seat after the threads, `h` the same at the closing, which
+-- leaves the farm and the history
+pub record IsEnd {D : Type 0} (state : D → Outside StoreTold) (made : Made (Turned D))
+    (own : SeatState (Turned D) Entry) (pool : List (Actor (SeatState (Turned D) Entry)))
+    (tally : Option Totals) (closed : FarmSeen D × List (ℕ × Entry)) : Type 0 where
   pub h : SeatState (Turned D) Entry
   pub longer : StartsWith (first_seat_after own pool).seen own.seen
   pub tallies : IsTally tally (first_seat_after own pool) h

@@ -1,0 +1,5 @@
+use Rattle.farm_call.proofs.Steps.{has_run}
+use Rattle.farm_call.proofs.serve.serve_ready.Goals as goal
+
+pub returns-in-Ok : goal.returns-in-Ok
+returns-in-Ok g c = has_run g.D.TileStore.state c.args.ready _ _ _ _ _ c.as_slice.ensures.value c.in-Ok.run' c.end_run.result c.in-Ok.ensures.ran c.end_run.ensures

@@ -1,0 +1,13 @@
+-- The entries of the renderd front are a front's.
+use Rattle.std.proofs.Common.{ℕ, List, Option, refl}
+use Rattle.front_leaves.specs.Fronts.{IsFront}
+use Rattle.front_leaves.proofs.Laws.{is_foreign, each_of_front, alone}
+use Rattle.renderd_handler.specs.Renderd.{renderd_rules}
+use Rattle.renderd_handler.proofs.Sorts as renderd
+
+pub is_front : (maps : List ℕ → Option ℕ) → IsFront 0 (renderd_rules 0 maps)
+is_front maps = record {
+  number = refl;
+  acts = λ c a. each_of_front 0 _ (renderd.kinds 0 maps (is_foreign 0) (λ conn command spot answer. refl) c a);
+  behinds = λ ms r behind fits. alone 0 behind (renderd.stands_alone 0 maps ms r behind fits);
+}
