@@ -23,10 +23,10 @@ fn list_name<'a>(name: &'a str, names: &mut Vec<&'a str>) -> Result<(), NoMemory
     Ok(())
 }
 
-/// Lists the names that the filter mentions, but in sums and products: those which are listed are found soonest, and
-/// no value hangs on which they are.
+// Lists the names that the filter mentions, but in sums and products: those which are listed are found soonest, and
+// no value hangs on which they are.
 #[cycle(naming)]
-pub fn list_names<'a>(e: &'a Expr, names: &mut Vec<&'a str>) -> Result<(), NoMemory> {
+pub(crate) fn list_names<'a>(e: &'a Expr, names: &mut Vec<&'a str>) -> Result<(), NoMemory> {
     match e {
         Expr::Or(parts) => list_all_names(parts, names),
         Expr::And(parts) => list_all_names(parts, names),
