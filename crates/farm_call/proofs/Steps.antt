@@ -1,5 +1,5 @@
 -- The steps of the command put together.
-use Rattle.std.proofs.Common.{◌≡◌, ℕ, inr, Bool, List, [], map, refl, sym, ap, subst, ◌∙◌}
+use Rattle.std.proofs.Common.{◌≡◌, ℕ, inl, inr, Bool, List, [], map, refl, sym, ap, subst, ◌∙◌}
 use Rattle.std.specs.Prelude.{Result, Ok, Err, Vec}
 use Rattle.std.specs.declared.alloc.Global.{Global}
 use Rattle.farm_base.specs.Outside.{Outside}
@@ -13,7 +13,7 @@ use Rattle.plain_world.specs.declared.world.Tile.{Tile}
 use Rattle.farm_history.specs.Entries.{Entry}
 use Rattle.farm_plan.specs.Plans.{FarmPlan, maps_in}
 use Rattle.farm_config.specs.Configs.{Config}
-use Rattle.farm_files.specs.Inputs.{ServeInputs}
+use Rattle.farm_files.specs.Inputs.{FarmInputs, ServeInputs}
 use Rattle.farm_refinement.specs.Seen.{FarmSeen}
 use Rattle.farm_runs.specs.declared.each_front.EachFront.{EachFront}
 use Rattle.farm_runs.specs.Promise.{RunsWell}
@@ -63,24 +63,31 @@ module _ {D : Type 0} (state : D → Outside StoreTold) where
           winds = ended.winds;
         })
 
-  module _ (s : ServeInputs) (store : D) where
-    module _ (config : Config) (config_is : config ≡ s.config) (plan : FarmPlan) (plan_is : plan ≡ s.inputs.plan) (resume : Bool) (resume_is : resume ≡ s.config.resume) where
-      -- the same of the parts of what the files say
-      pub cannot : (at : Outside StoreTold) (why : Stop) → CannotBegin (state store) plan resume at why → CannotBegin (state store) s.inputs.plan s.config.resume at why
-      cannot at why h = subst (λ (b : Bool). CannotBegin (state store) s.inputs.plan b at why) resume_is (subst (λ (p : FarmPlan). CannotBegin (state store) p resume at why) plan_is h)
+  -- what the files say, put together of its parts
+  module _ (parts s : ServeInputs) (is : parts ≡ s) (store : D) (inputs : FarmInputs) (inputs_are : inputs ≡ parts.inputs) (resume : Bool) (resume_is : resume ≡ parts.config.resume) where
+    begun : (farm : FarmSeen D) → HasBegun state inputs.plan resume store farm → HasBegun state parts.inputs.plan parts.config.resume store farm
+    begun farm h = subst (λ (b : Bool). HasBegun state parts.inputs.plan b store farm) resume_is (subst (λ (i : FarmInputs). HasBegun state i.plan resume store farm) inputs_are h)
 
-      pub begun : (farm : FarmSeen D) → HasBegun state plan resume store farm → HasBegun state s.inputs.plan s.config.resume store farm
-      begun farm h = subst (λ (b : Bool). HasBegun state s.inputs.plan b store farm) resume_is (subst (λ (p : FarmPlan). HasBegun state p resume store farm) plan_is h)
+    not_made : (ports ports' : EachFront (Outside PortsTold)) (back : D) (why : Stop) → WhyNot state parts store back ports ports' why → MakesReady state s store ports ports' (Err (back, why))
+    not_made ports ports' back why h = subst (λ (x : ServeInputs). WhyNot state x store back ports ports' why) is h
 
-      pub listened : (old new : EachFront (Outside PortsTold)) (end : Result (Unit {0}) Stop) → Listening (places config old new) end → Listening (places s.config old new) end
-      listened old new end h = subst (λ (c : Config). Listening (places c old new) end) config_is h
+    -- no farm was begun
+    pub not_begun : (ports : EachFront (Outside PortsTold)) (back : D) (why : Stop) → CannotBegin (state store) inputs.plan resume (state back) why → MakesReady state s store ports ports (Err (back, why))
+    not_begun ports back why h =
+        not_made ports ports back why
+        (inl (subst (λ (b : Bool). CannotBegin (state store) parts.inputs.plan b (state back) why) resume_is (subst (λ (i : FarmInputs). CannotBegin (state store) i.plan resume (state back) why) inputs_are h), refl))
 
-  -- what is made ready are inputs, put together of their parts
-  pub ready_of_parts : (parts s : ServeInputs) → parts ≡ s → (store : D) (ports ports' : EachFront (Outside PortsTold)) (ready : Ready D) → IsReady state parts store ports ports' ready → MakesReady state s store ports ports' (Ok ready)
-  ready_of_parts parts s is store ports ports' ready h = subst (λ (x : ServeInputs). IsReady state x store ports ports' ready) is h
+    -- a farm was begun, and its ports do not listen
+    pub not_listening : (ports ports' : EachFront (Outside PortsTold)) (back : D) (why : Stop) (farm : FarmSeen D) → HasBegun state inputs.plan resume store farm → back ≡ farm.store → Listening (places parts.config ports ports') (Err why)
+        → MakesReady state s store ports ports' (Err (back, why))
+    not_listening ports ports' back why farm has same listens = not_made ports ports' back why (inr (farm, begun farm has, same, inl listens))
 
-  pub not_of_parts : (parts s : ServeInputs) → parts ≡ s → (store : D) (ports ports' : EachFront (Outside PortsTold)) (back : D) (why : Stop) → WhyNot state parts store back ports ports' why → MakesReady state s store ports ports' (Err (back, why))
-  not_of_parts parts s is store ports ports' back why h = subst (λ (x : ServeInputs). WhyNot state x store back ports ports' why) is h
+    -- a farm was begun, and its ports listen
+    pub made_ready : (ports ports' : EachFront (Outside PortsTold)) (ready : Ready D) → HasBegun state inputs.plan resume store ready.farm → Listening (places parts.config ports ports') (Ok tt) → ready.resume ≡ resume → ready.lists.items ≡ inputs.lists
+        → MakesReady state s store ports ports' (Ok ready)
+    made_ready ports ports' ready has listens same lists =
+        subst (λ (x : ServeInputs). IsReady state x store ports ports' ready) is
+        (record { begun = begun ready.farm has; listens = listens; resume_is = same ∙ resume_is; lists_are = lists ∙ ap (λ (i : FarmInputs). i.lists) inputs_are })
 
   module _ (s : ServeInputs) (store : D) (out out' : SinkAt) (ports ports' : EachFront (Outside PortsTold)) where
     abbrev start : World D

@@ -118,7 +118,7 @@ fn do_command<
     ports: &mut ThreePorts<P, B>,
     gate: &G,
 ) -> Done<D>
-    requires { IfOk read (λ command. IsSound command) }
+    requires sound { IfOk read (λ command. IsSound command) }
     ensures { RunsRead D.state read (F.state files.old) (F.state files.new) store
         (over (O.state out.old) store (each_port P.state ports.old))
         (left_by (O.state out.new) result (each_port P.state ports.new)) result.end }

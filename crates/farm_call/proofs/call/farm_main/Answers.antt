@@ -2,8 +2,8 @@ use Rattle.farm_call.proofs.Asked.{ReadsWords, runs_words, sound_read}
 use Rattle.farm_call.proofs.Keeping.{keeps}
 use Rattle.farm_call.proofs.call.farm_main.Goals as goal
 
-pub do_command-done-requires : goal.do_command-done-requires
-do_command-done-requires g c = sound_read _ c.read_words-read.result (record { given = c.read_words-read.ensures.given; none = c.read_words-read.ensures.none })
+pub do_command-done-requires-clause-sound : goal.do_command-done-requires-clause-sound
+do_command-done-requires-clause-sound g c κs within = sound_read _ c.read_words-read.result (record { given = c.read_words-read.ensures.given; none = c.read_words-read.ensures.none })
 
 pub returns : goal.returns
 returns g c =
