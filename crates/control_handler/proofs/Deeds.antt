@@ -21,11 +21,9 @@ use Rattle.control_handler.specs.inner.Readings.{Reading, read_on, read_all, par
 use Rattle.control_handler.specs.Control.{control_rules, line_done}
 use Rattle.control_handler.specs.inner.Doing.{control_entries, act_text, act_fits, act_whole, act_starves, Says, Said, Lacks, Answers, Gives, Wants, Starves, DoneWhy, Did, LongWhy, as_done, Heeds, Knows}
 use Rattle.std.specs.List.{list_any}
+use Rattle.front_loop.proofs.Sitting.{clash}
 use Rattle.control_handler.proofs.Parts.{asked_same, long_same}
 use Rattle.control_handler.proofs.Streams.{read_both, read_more, read_shut, wants_more, wants_begin}
-
-clash : {X : Type 0} → true ≡ false → X
-clash h = cc
 
 done_keeps : (disposition : Disposition) → keeps disposition ≡ true → keeps (as_done disposition) ≡ true
 done_keeps Stays k = refl

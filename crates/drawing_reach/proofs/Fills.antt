@@ -4,6 +4,7 @@ use Rattle.std.specs.Prelude.{nat_le, if◌then◌else◌, option_map, unwrap_or
 use Rattle.std.specs.List.{AllByRecursion}
 use Rattle.std.proofs.Math.Nat.{mul-le-mul_left}
 use Rattle.std.proofs.lemmas.Bool.{cases_lt, le-leb, lt-leb}
+use Rattle.raster_core.proofs.Corners.{twice_same}
 use Rattle.plain_world.specs.declared.world.Point.{Point}
 use Rattle.plain_shapes.specs.Rings.{counts_down, counts, edges_from, ring_edges, in_rings}
 use Rattle.plain_shapes.proofs.Signs.{downward_is, off_above, off_below}
@@ -95,10 +96,6 @@ flip_comm true false = refl
 flip_comm false true = refl
 flip_comm false false = refl
 
-flip_self : (s : Bool) → flip s s ≡ false
-flip_self true = refl
-flip_self false = refl
-
 flip_chain : (r s t : Bool) → flip (flip r s) (flip s t) ≡ flip r t
 flip_chain true true true = refl
 flip_chain true true false = refl
@@ -117,7 +114,7 @@ east_edge a b c p q = elim (cases_lt b.y a.y) [
 
 east_edges : (c before : Point) (ps : List Point) → before.x ≤ c.x → AllByRecursion (λ q. q.x ≤ c.x) ps
     → odd_edges (edges_from before ps) c ≡ flip (nat_le before.y c.y) (nat_le (last_of before ps).y c.y)
-east_edges c before [] b h = sym (flip_self (nat_le before.y c.y))
+east_edges c before [] b h = sym (twice_same (nat_le before.y c.y))
 east_edges c before (q ∷ ps) b h =
     odd_cons (λ e. counts e c) (before, q) (edges_from q ps)
     ∙ ap (λ t. flip t (odd_edges (edges_from q ps) c)) (east_edge before q c b h.0)
@@ -130,7 +127,7 @@ east_ring c [] h = refl
 east_ring c (p ∷ ps) h =
     ring_is c p ps
     ∙ east_edges c (last_of p ps) (p ∷ ps) (last_has (λ q. q.x ≤ c.x) p ps h.0 h.1) h
-    ∙ flip_self (nat_le (last_of p ps).y c.y)
+    ∙ twice_same (nat_le (last_of p ps).y c.y)
 
 -- ---- rings within a rectangle
 

@@ -3,7 +3,7 @@ use Rattle.std.proofs.Common.{◌≡◌, ℕ, zero, suc, ◌+◌, ◌*◌, ◌/�
 use Rattle.std.specs.Prelude.{if◌then◌else◌, IsTrue}
 use Rattle.std.specs.List.{AllByRecursion, list_all, list_any, range_with_len}
 use Rattle.std.proofs.Math.Nat.{mul-le-mul_right, mul-div-le}
-use Rattle.std.proofs.lemmas.Bool.{and_parts}
+use Rattle.std.proofs.lemmas.Bool.{and_parts, false_from_ne_true}
 use Rattle.std.proofs.lemmas.List.Elements.{recursion_from_All}
 use Rattle.farm_base.specs.declared.Attr.{Attr}
 use Rattle.plain_world.specs.declared.world.Point.{Point}
@@ -143,12 +143,8 @@ pub unreached : (f : Feature) (size d : ℕ) (t : Tile) (s : Style) (image : Pix
 unreached f size d t s image tile sizes keeps off =
     item_missed (window_of t size) d s image f keeps (λ p valid.
     all_centres (λ c. covers (pixel_of t.z size) f.geometry c p ≡ false) (window_of t size) (λ j i hi hj.
-    by (covers (pixel_of t.z size) f.geometry (centre (window_of t size) i j) p) (λ e.
+    false_from_ne_true (covers (pixel_of t.z size) f.geometry (centre (window_of t size) i j) p) (λ e.
     (let r : Reaches f size t.z (tile_square t) =
     (centre (window_of t size) i j, covered_reached f.geometry size t.z p (centre (window_of t size) i j) valid e, centre_in_square t size i j tile sizes hi hj) in
     let on : feature_reaches f size t.z (tile_square t) ≡ true = (by_edges f size t.z (tile_square t)).1 r in
     cc))))
-  where
-    by : (b : Bool) → (b ≡ true → ⊥) → b ≡ false
-    by true h = absurd (h refl)
-    by false h = refl

@@ -10,6 +10,7 @@ use Rattle.std.proofs.lemmas.List.{get_or_default, take-append-drop, length-take
 use Rattle.std.proofs.lemmas.List.Folds.{list_any-append, list_any_none, list_any_at}
 use Rattle.std.proofs.lemmas.List.Edits.{swapped_from_swap}
 use Rattle.std.proofs.lemmas.List.Sorted.{list_any-IsPermutation, IsPermutation-trans, IsPermutation-append_left}
+use Rattle.std.proofs.Math.Bool.{or-false}
 use Rattle.plain_world.specs.declared.world.Square.{Square}
 use Rattle.plain_world.specs.World.{IsMeta, IsTileSize, meta_square, side_at}
 use Rattle.plain_world.proofs.Windows.{size_bounds}
@@ -133,11 +134,7 @@ front_near boxes after m size n top k tile node meta moved others under =
     let p : Bounds → Bool = λ b. is_met b size k in
     let none : list_any p (drop m after) ≡ false = none_near (drop m after) size n top k tile node meta others under in
     let split : list_any p after ≡ (list_any p (take m after) || list_any p (drop m after)) = ap (list_any p) (sym (take-append-drop m after)) ∙ list_any-append p (take m after) (drop m after) in
-    sym (list_any-IsPermutation p boxes after moved ∙ (split ∙ (ap (λ x. list_any p (take m after) || x) none ∙ or_none (list_any p (take m after)))))
-  where
-    or_none : (x : Bool) → (x || false) ≡ x
-    or_none true = refl
-    or_none false = refl
+    sym (list_any-IsPermutation p boxes after moved ∙ (split ∙ (ap (λ x. list_any p (take m after) || x) none ∙ or-false (list_any p (take m after)))))
 
 -- ---- the walk
 

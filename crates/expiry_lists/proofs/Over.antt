@@ -1,7 +1,7 @@
 -- The walks against the quadtree of squares: what a walk down or up meets is what lies below or above.
-use Rattle.std.proofs.Common.{◌≡◌, ℕ, zero, suc, ◌+◌, ◌-◌, ◌*◌, ◌/◌, ◌%◌, ◌^◌, ◌<◌, ◌≤◌, Bool, true, false, ◌||◌, nat_le, refl, sym, ap, ◌∙◌, inl, inr, ◌⊎◌, arith}
+use Rattle.std.proofs.Common.{◌≡◌, ℕ, zero, suc, ◌+◌, ◌-◌, ◌*◌, ◌/◌, ◌%◌, ◌^◌, ◌<◌, ◌≤◌, true, false, ◌||◌, nat_le, refl, sym, ap, ◌∙◌, inl, inr, ◌⊎◌, arith}
 use Rattle.std.proofs.lemmas.Bool.{or_cases, or_left, or_right, cases_lt}
-use Rattle.std.proofs.lemmas.Bool.Decides.{nat_tests}
+use Rattle.std.proofs.lemmas.Bool.Decides.{nat_tests, same_from_decides}
 use Rattle.std.proofs.lemmas.Nat.{shr-shr}
 use Rattle.plain_world.specs.declared.world.Square.{Square}
 use Rattle.plain_world.specs.World.{IsMeta, meta_square, squares_meet}
@@ -183,15 +183,9 @@ below_above (suc n) low k (suc (suc e)) deep grid some few b =
     } in
     or_left _ (same_key (parent low) k) (below_above n (parent low) k (suc e) (omega (arith, deep)) grid (omega arith) (omega (arith, few)) higher)
 
--- tests that are true together are one
-pub same_tests : (p q : Bool) → (p ≡ true → q ≡ true) → (q ≡ true → p ≡ true) → p ≡ q
-same_tests true q there back = sym (there refl)
-same_tests false true there back = back refl
-same_tests false false there back = refl
-
 -- So the walk up from a key and the walk down from it meet exactly what overlaps it.
 pub around_meets : (top k : Key) → IsNode top → 3 ≤ k.meta.z → IsMeta k.meta → top.map ≡ k.map → (is_above (top.meta.z - 3) top k || is_under (18 - top.meta.z) top k) ≡ squares_meet (node_square top) (node_square k)
-around_meets top k node deep meta maps = same_tests _ _ there back
+around_meets top k node deep meta maps = same_from_decides _ _ (there, back) (λ h. h, λ h. h)
   where
     grid : OnGrid k
     grid = record { deep = deep; x_eights = meta.x_eights; y_eights = meta.y_eights }

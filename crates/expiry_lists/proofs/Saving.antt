@@ -8,6 +8,7 @@ use Rattle.std.proofs.lemmas.Bool.Decides.{nat_tests}
 use Rattle.std.proofs.lemmas.List.Elements.{All-head, All-tail, All-from_recursion}
 use Rattle.std.proofs.lemmas.List.Sorted.{All-permutation, IsPermutation-sym, IsPermutation-map}
 use Rattle.std.proofs.lemmas.Map.Keys.{IsDistinct-IsPermutation}
+use Rattle.farm_history.proofs.Resumed.{key_before-then}
 use Rattle.farm_history.specs.declared.keys.Key.{Key}
 use Rattle.farm_history.specs.declared.keys.Mark.{Mark}
 use Rattle.farm_history.specs.declared.keys.Kept.{Kept}
@@ -131,22 +132,11 @@ pub moved_apart : (xs ys : List Kept) → IsDistinct same_key (kept_keys xs) →
 moved_apart xs ys apart moved = IsDistinct-IsPermutation same_key same_key-sym (kept_keys xs) (kept_keys ys) (IsPermutation-map (λ x. x.key) xs ys moved) apart
 
 -- An order by one number and then another.
-lex_then : (a b c : ℕ) (t u v : Bool) → (t ≡ true → u ≡ true → v ≡ true) → (nat_lt a b || ((a == b) && t)) ≡ true → (nat_lt b c || ((b == c) && u)) ≡ true → (nat_lt a c || ((a == c) && v)) ≡ true
-lex_then a b c t u v rest first second = grind (arith, nat_tests, rest)
-
 lex_total : (a b : ℕ) (t u same : Bool) → (u ≡ false → same ≡ false → t ≡ true) → (nat_lt b a || ((b == a) && u)) ≡ false → ((a == b) && same) ≡ false → (nat_lt a b || ((a == b) && t)) ≡ true
 lex_total a b t u same rest other apart = grind (arith, nat_tests, rest)
 
 last_total : (a b : ℕ) → nat_lt b a ≡ false → (a == b) ≡ false → nat_lt a b ≡ true
 last_total a b other apart = grind (arith, nat_tests)
-
-last_then : (a b c : ℕ) → nat_lt a b ≡ true → nat_lt b c ≡ true → nat_lt a c ≡ true
-last_then a b c first second = grind (arith, nat_tests)
-
-key_before-then : (a b c : Key) → key_before a b ≡ true → key_before b c ≡ true → key_before a c ≡ true
-key_before-then a b c =
-    lex_then a.map b.map c.map _ _ _
-    (lex_then a.meta.z b.meta.z c.meta.z _ _ _ (lex_then a.meta.x b.meta.x c.meta.x _ _ _ (last_then a.meta.y b.meta.y c.meta.y)))
 
 key_before-total : (a b : Key) → key_before b a ≡ false → same_key a b ≡ false → key_before a b ≡ true
 key_before-total a b =

@@ -1,5 +1,5 @@
 -- The whole table made dirty, entry by entry.
-use Rattle.std.proofs.Common.{◌≡◌, ℕ, zero, suc, ◌+◌, ◌≤◌, Bool, true, false, cond, List, [], ◌∷◌, ◌++◌, length, take, drop, map, Option, Some, None, option_map, is_some, add-one, refl, sym, ap, ◌∙◌, subst, arith}
+use Rattle.std.proofs.Common.{◌≡◌, ℕ, zero, suc, ◌+◌, ◌≤◌, Bool, true, false, cond, List, [], ◌∷◌, ◌++◌, length, take, drop, map, Option, Some, None, option_map, is_some, add-one, refl, sym, ap, ◌∙◌, subst, arith, true≢false}
 use Rattle.std.specs.Prelude.{slice_get}
 use Rattle.std.proofs.lemmas.List.{take_all, drop_all}
 use Rattle.indexmap.specs.IndexMap.{set_value_at}
@@ -122,8 +122,8 @@ walks_settled a b i count tree all is spots room free sum = record {
     groups = tree.groups;
     spotted = λ k there. tree.spotted k (sym (there_now k) ∙ there);
     rooted = tree.rooted;
-    own = λ k clean. absurd (never (sym clean ∙ dirty k));
-    clean_live = λ k deep clean. absurd (never (sym clean ∙ dirty k));
+    own = λ k clean. absurd (true≢false (sym clean ∙ dirty k));
+    clean_live = λ k deep clean. absurd (true≢false (sym clean ∙ dirty k));
     rises = tree.rises;
   });
   there = there_now;
@@ -141,6 +141,3 @@ walks_settled a b i count tree all is spots room free sum = record {
 
     dirty : (k : Key) → is_clean_at b.entries k ≡ false
     dirty k = ap (λ es. is_clean_at es k) whole ∙ (ap (λ o. is_clean (node_mark o)) (quiet_at a.entries k) ∙ none_clean (node_of a.entries k))
-
-    never : true ≡ false → ⊥
-    never h = cc

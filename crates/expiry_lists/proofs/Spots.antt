@@ -5,9 +5,10 @@ use Rattle.std.specs.Prelude.{bit_and}
 use Rattle.std.specs.Map.{set_value}
 use Rattle.std.proofs.lemmas.Bool.{and_parts, and_from, false_from_ne_true}
 use Rattle.std.proofs.lemmas.Bool.Decides.{nat_tests}
+use Rattle.std.proofs.Math.Bool.{or-false, and-false}
 use Rattle.farm_history.specs.declared.keys.Key.{Key}
 use Rattle.farm_history.specs.Plans.{same_key}
-use Rattle.farm_history.proofs.Lists.{each-all, each-map, same_key-true}
+use Rattle.farm_history.proofs.Lists.{each-all, each-map, same_key-true, same_key-self}
 use Rattle.expiry_lists.specs.declared.nodes.Node.{Node}
 use Rattle.expiry_lists.specs.declared.nodes.Spot.{Spot}
 use Rattle.expiry_lists.specs.inner.Nodes.{NodeTable, parent, place_of, bit_of, has_bit, at_bits, has_node, has_spot, is_clean, is_clean_at, spot_of, own_word, live_word, owns_at, lives_at, shown_of, IsTree, Quieter}
@@ -56,11 +57,7 @@ bits_more {a} place word i first second = walks_agree (bits_below place word (i 
     plain true n = go (n == i) refl
       where
         go : (e : Bool) → (n == i) ≡ e → ((nat_lt n i && has_bit word n) || (e && has_bit word i)) ≡ (nat_lt n (i + 1) && has_bit word n)
-        go false other = let same : nat_lt n (i + 1) ≡ nat_lt n i = grind (arith, nat_tests) in rw same (or_none (nat_lt n i && has_bit word n))
-          where
-            or_none : (y : Bool) → (y || false) ≡ y
-            or_none true = refl
-            or_none false = refl
+        go false other = let same : nat_lt n (i + 1) ≡ nat_lt n i = grind (arith, nat_tests) in rw same (or-false (nat_lt n i && has_bit word n))
         go true own =
             let is : n ≡ i = grind (arith, nat_tests) in
             let past : nat_lt n i ≡ false = grind (arith, nat_tests) in
@@ -98,11 +95,7 @@ module _ (a : NodeTable) (place : Key) (s : Spot) (mask : ℕ) (apart : Distinct
   mask_none none = walks_agree (at_bits place mask) mask_agree (walks_none (at_bits place (bit_and s.own mask)) a (each-all _ (shown_of a.entries) (λ t clean. gone t.key)) tree)
     where
       gone : (k : Key) → at_bits place (bit_and s.own mask) k ≡ false
-      gone k = ap (λ n. same_key place (place_of k) && has_bit n (bit_of k)) none ∙ (ap (λ x. same_key place (place_of k) && x) (no_bit (bit_of k)) ∙ none_and (same_key place (place_of k)))
-        where
-          none_and : (x : Bool) → (x && false) ≡ false
-          none_and true = refl
-          none_and false = refl
+      gone k = ap (λ n. same_key place (place_of k) && has_bit n (bit_of k)) none ∙ (ap (λ x. same_key place (place_of k) && x) (no_bit (bit_of k)) ∙ and-false (same_key place (place_of k)))
 
 -- a place without a spot has nothing clean
 pub spotless : (a : NodeTable) (place : Key) (mask : ℕ) → Distinct a.entries → IsTree a.entries a.spots → spot_of a.spots place ≡ None → Walks (at_bits place mask) a a 0
@@ -141,11 +134,8 @@ module _ (a b c : NodeTable) (place : Key) (s : Spot) (mask n : ℕ) (small : ma
       unmasked : (k : Key) → place ≡ place_of k → is_clean_at b.entries k ≡ true → has_bit s.own (bit_of k) ≡ true → has_bit mask (bit_of k) ≡ false
       unmasked k at clean has =
           let none : at_bits place (bit_and s.own mask) k ≡ false = (walks_clean before after w k clean).0 in
-          let here : same_key place (place_of k) ≡ true = subst (λ (x : Key). same_key place x ≡ true) at (self place) in
+          let here : same_key place (place_of k) ≡ true = subst (λ (x : Key). same_key place x ≡ true) at (same_key-self place) in
           sym (and_bit s.own mask (bit_of k) ∙ ap (λ x. x && has_bit mask (bit_of k)) has) ∙ (sym (ap (λ x. x && has_bit (bit_and s.own mask) (bit_of k)) here) ∙ none)
-        where
-          self : (p : Key) → same_key p p ≡ true
-          self p = grind (arith, nat_tests)
 
   writes : Writes b.spots place taken c.spots
   unfolding taken
@@ -185,12 +175,9 @@ module _ (es : List (Key × Node)) (ss new : List (Key × Spot)) (place : Key) (
     below = λ q b deep live up has. less b has (false_from_ne_true (has_bit mask b) (λ masked. absurd (quiet q b deep masked live (sym up))));
   }
     where
-      self : (p : Key) → same_key p p ≡ true
-      self p = grind (arith, nat_tests)
-
       unmasked : (k : Key) → place ≡ place_of k → is_clean_at es k ≡ true → has_bit mask (bit_of k) ≡ false
       unmasked k at clean = false_from_ne_true (has_bit mask (bit_of k)) (λ masked.
-          let here : same_key place (place_of k) ≡ true = subst (λ (x : Key). same_key place x ≡ true) at (self place) in
+          let here : same_key place (place_of k) ≡ true = subst (λ (x : Key). same_key place x ≡ true) at (same_key-self place) in
           let never : true ≡ false = sym clean ∙ dirty k (and_from _ _ here masked) in
           cc)
 
@@ -214,11 +201,7 @@ module _ (es : List (Key × Node)) (ss new : List (Key × Spot)) (place : Key) (
   unfolding hushed
   hush_quiet b masked =
       ap (λ o. has_bit (live_word o) b) (written_here ss new place hushed hush_writes)
-      ∙ (less_bit s.live mask b small (few_bits mask b small masked) ∙ (ap (λ x. has_bit s.live b && not x) masked ∙ none_and (has_bit s.live b)))
-    where
-      none_and : (x : Bool) → (x && false) ≡ false
-      none_and true = refl
-      none_and false = refl
+      ∙ (less_bit s.live mask b small (few_bits mask b small masked) ∙ (ap (λ x. has_bit s.live b && not x) masked ∙ and-false (has_bit s.live b)))
 
 -- a place without a spot is quiet
 pub spotless_quiet : (ss : List (Key × Spot)) (place : Key) (b : ℕ) → spot_of ss place ≡ None → lives_at ss place b ≡ false

@@ -6,6 +6,7 @@ use Rattle.std.proofs.lemmas.Bool.Decides.{nat_tests}
 use Rattle.std.specs.Int.{bit_at}
 use Rattle.std.proofs.lemmas.Nat.Bits.{bit_at-pow_same, bit_at-pow_other}
 use Rattle.std.proofs.lemmas.Nat.{pow_pos, pow_below, pow-add, shr-shr, div_below, shr_below}
+use Rattle.std.proofs.Math.Bool.{and-or_distrib_right}
 use Rattle.plain_world.specs.declared.world.Square.{Square}
 use Rattle.plain_world.specs.declared.world.Tile.{Tile}
 use Rattle.plain_world.specs.World.{IsMeta, IsTile, meta_square, tile_square, squares_meet}
@@ -281,12 +282,9 @@ one_map map k = grind (arith, nat_tests)
 pub map_masked : (map : ℕ) (k : Key) → (is_of_map (map / 64) (place_of k) && has_bit (1 * 2 ^ (map % 64) % 2 ^ 64) (bit_of k)) ≡ is_of_map map k
 map_masked map k = ap (λ x. (map / 64 == k.map / 64) && x) (mask_of_map map k) ∙ one_map map k
 
-two_masks : (p q has : Bool) → ((p && has) || (q && has)) ≡ ((p || q) && has)
-two_masks p q has = grind arith
-
 pub map_bits : (map : ℕ) (k : Key) → IsMeta k.meta → ((is_flat (map / 64) (place_of k) && has_bit (1 * 2 ^ (map % 64) % 2 ^ 64) (bit_of k)) || under_bits 15 (world_key (map / 64) 3) (1 * 2 ^ (map % 64) % 2 ^ 64) k) ≡ is_of_map map k
 map_bits map k meta =
-    two_masks (is_flat (map / 64) (place_of k)) (is_under 15 (world_key (map / 64) 3) (place_of k)) (has_bit (1 * 2 ^ (map % 64) % 2 ^ 64) (bit_of k))
+    sym (and-or_distrib_right (is_flat (map / 64) (place_of k)) (is_under 15 (world_key (map / 64) 3) (place_of k)) (has_bit (1 * 2 ^ (map % 64) % 2 ^ 64) (bit_of k)))
     ∙ (ap (λ x. x && has_bit (1 * 2 ^ (map % 64) % 2 ^ 64) (bit_of k)) (map_agrees (map / 64) (place_of k) meta) ∙ map_masked map k)
 
 -- and of all maps of a group

@@ -2,7 +2,7 @@
 use Rattle.std.proofs.Common.{◌≡◌, ℕ, ◌⊎◌, inl, inr, ◌≤◌, ◌^◌, Bool, true, false, not, ◌||◌, if◌then◌else◌, List, [], ◌∷◌, ◌++◌, length, map, reverse, refl, sym, ap, ap₂, subst, ◌∙◌}
 use Rattle.std.specs.Prelude.{Option, Some, None, Result, Ok, Err, IfSome, option_map, is_some, is_none}
 use Rattle.std.specs.List.{list_any}
-use Rattle.std.proofs.lemmas.Bool.{or_cases, not-true}
+use Rattle.std.proofs.lemmas.Bool.{or_cases, not-true, or_parts}
 use Rattle.farm_base.specs.Outside.{Outside}
 use Rattle.farm_base.specs.declared.sinks.SinkFault.{SinkFault}
 use Rattle.tile_store.specs.Stores.{StoreTold, StorePuts, Stored, IfTold}
@@ -100,11 +100,6 @@ none_there (Some x) is = cc
 abbrev InOrder : FrontEnd → Type 0
 InOrder end = (end ≡ FrontEnd.Finished) ⊎ (end ≡ FrontEnd.Stopped)
 
-no_or : (a b : Bool) → (a || b) ≡ false → (a ≡ false) × (b ≡ false)
-no_or false false e = (refl, refl)
-no_or true b e = cc
-no_or false true e = cc
-
 in_order : (end : FrontEnd) → is_front_worn end ≡ false → is_broken end ≡ false → is_wanting end ≡ false → InOrder end
 in_order FrontEnd.Finished a b c = inl refl
 in_order FrontEnd.Stopped a b c = inr refl
@@ -124,15 +119,15 @@ none_of false false true e = cc
 all_in_order : (worn : Bool) (a b c : FrontEnd) → why_ended worn (a ∷ b ∷ c ∷ []) ≡ Ok tt → InOrder a × InOrder b × InOrder c
 all_in_order worn a b c e =
     let none = none_of (worn || list_any is_front_worn (a ∷ b ∷ c ∷ [])) (list_any is_broken (a ∷ b ∷ c ∷ [])) (list_any is_wanting (a ∷ b ∷ c ∷ [])) e in
-    let w = no_or (is_front_worn a) _ (no_or worn _ none.0).1 in
-    let b' = no_or (is_broken a) _ none.1 in
-    let n = no_or (is_wanting a) _ none.2 in
-    let w' = no_or (is_front_worn b) _ w.1 in
-    let b'' = no_or (is_broken b) _ b'.1 in
-    let n' = no_or (is_wanting b) _ n.1 in (
+    let w = or_parts (is_front_worn a) _ (or_parts worn _ none.0).1 in
+    let b' = or_parts (is_broken a) _ none.1 in
+    let n = or_parts (is_wanting a) _ none.2 in
+    let w' = or_parts (is_front_worn b) _ w.1 in
+    let b'' = or_parts (is_broken b) _ b'.1 in
+    let n' = or_parts (is_wanting b) _ n.1 in (
       in_order a w.0 b'.0 n.0,
       in_order b w'.0 b''.0 n'.0,
-      in_order c (no_or (is_front_worn c) _ w'.1).0 (no_or (is_broken c) _ b''.1).0 (no_or (is_wanting c) _ n'.1).0,
+      in_order c (or_parts (is_front_worn c) _ w'.1).0 (or_parts (is_broken c) _ b''.1).0 (or_parts (is_wanting c) _ n'.1).0,
     )
 
 module _ {D : Type 0} (state : D → Outside StoreTold) (was : CallBefore D) (is : CallAfter D) (s : ServeInputs) (closed : ClosedFarm D) (left_is : is.left ≡ Farm closed) (end : Result (Unit {0}) Stop)

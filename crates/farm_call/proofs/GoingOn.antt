@@ -1,5 +1,6 @@
 -- A farm that goes on from what another one saved, over the store that this one left: what it shows stands there.
 use Rattle.std.proofs.Common.{◌≡◌, ℕ, ◌<◌, Bool, true, false, List, Option, Some, None, refl, sym, ap, ap₂, ◌∙◌, arith}
+use Rattle.std.proofs.lemmas.Option.{same_Some}
 use Rattle.farm_history.specs.declared.keys.Key.{Key}
 use Rattle.farm_history.specs.Entries.{Entry}
 use Rattle.farm_history.specs.Past.{shown, is_clean, is_fresh}
@@ -23,14 +24,11 @@ module _ (plan : FarmPlan) (told : Bool) (h : List Entry) (s : Saving) (content 
   again_legal : IsResumed (plan_of plan) h (replay (plan_of plan) s)
   again_legal = resumed (plan_of plan) told h s some_worker some_bulk legal saved
 
-  one : (o : Option (List Entry)) (a b : List Entry) → o ≡ Some a → o ≡ Some b → a ≡ b
-  one o a b x y = let e : Some a ≡ Some b = sym x ∙ y in cc
-
   by_shown : (k : Key) (again : List Entry) → shown (replay (plan_of plan) s) k ≡ Some again → is_clean (plan_of plan) h k ≡ true → (o : Option (List Entry)) → shown h k ≡ o → content (key_path plan k) ≡ Some (text_before plan again k)
   by_shown k again is clean None none = absurd (let e = sym (ap (λ o. is_fresh (plan_of plan) h o k) none) ∙ clean in cc)
   by_shown k again is clean (Some before) e =
       let a = again_legal.clean_again k before clean e in
-      let same : a.again ≡ again = one _ a.again again a.is_shown is in
+      let same : a.again ≡ again = same_Some a.again again (sym a.is_shown ∙ is) in
       holds k before e
       ∙ ap₂ (λ (st : Option ℕ) (d : List ℕ). Some (container_bytes plan k st (data_of plan d))) (sym a.same_style) (sym a.same_data)
       ∙ ap (λ x. Some (text_before plan x k)) same

@@ -61,9 +61,6 @@ puts_noticed out out' bytes (Err s) h other = ap fails (puts_failed out out' byt
 end_of : (V : Type 0) (s q : Stop) → ended {A = V} s ≡ ended q → (end : Result (Unit {0}) Stop) → end ≡ ended s → end ≡ ended q
 end_of V s q e end is = let same : s ≡ q = cc in is ∙ ap fails same
 
-not_made : (V : Type 0) (s : Stop) (v : V) → ended s ≡ Ok v → ⊥
-not_made V s v e = cc
-
 -- what is so where it is told, where it is told
 pub record Told {A : Type 0} (o : Option A) (P : A → Type 0) : Type 0 where
   pub it : A
@@ -154,7 +151,7 @@ module _ {D : Type 0} (state : D → Outside StoreTold) (was : CallBefore D) (is
   value_worked c asks v end (follow.wants e same) did = absurd (cc)
 
   no_value : (c : Course Work) → Asks was.words c → (s : Stop) (end : Result (Unit {0}) Stop) → Followed c was.files is.files (ended {A = Work} s) → end ≡ Err s → w' ≡ w → Ran end
-  no_value c asks s end (follow.makes u e m same) end_is idle = absurd (not_made Work s u e)
+  no_value c asks s end (follow.makes u e m same) end_is idle = absurd (cc)
   no_value c asks s end (follow.refuses line e m same) end_is idle =
       refuses line (record { course = c; asks = asks; leads = m }) same (idles idle) (end_of Work s (stop.Refused line) e end end_is)
   no_value c asks s end (follow.misses name on (inl e) m failed rose) end_is idle =

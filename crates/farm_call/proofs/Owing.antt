@@ -2,12 +2,13 @@
 use Rattle.std.proofs.Common.{◌≡◌, ℕ, ◌⊎◌, inl, inr, Bool, List, [], ◌∷◌, ◌++◌, reverse, refl, ap, subst, ◌∙◌, append_assoc}
 use Rattle.std.specs.Prelude.{Option}
 use Rattle.std.proofs.lemmas.List.{reverse-append, map-append}
+use Rattle.farm_laws.proofs.Sentences.{at_moment}
 use Rattle.port_events.specs.declared.ends.FrontEnd.{FrontEnd}
 use Rattle.port_events.specs.declared.ends.Rest.{Rest}
 use Rattle.port_events.specs.Told.{PortsTold}
 use Rattle.farm_history.specs.declared.queues.Reply.{Reply}
 use Rattle.farm_history.specs.declared.answers.Collected.{Collected}
-use Rattle.farm_history.specs.Entries.{Entry, Collect, EachMoment}
+use Rattle.farm_history.specs.Entries.{Entry, Collect}
 use Rattle.farm_history.specs.Past.{due_replies, is_stopped}
 use Rattle.farm_history.specs.Plans.{Plan}
 use Rattle.farm_history.specs.Rules.{Fits, Legal, collect_from, collect_rule}
@@ -20,11 +21,6 @@ use Rattle.load_command.specs.Loads.{GivesNone}
 use Rattle.farm_call.specs.Owing.{LastIsWhole, OwesNothing}
 
 -- ---- replies
-
--- what holds at each moment holds at this one
-moment_at : (P : List Entry → Entry → Type 0) (later : List Entry) (e : Entry) (g : List Entry) → EachMoment P (later ++ e ∷ g) → P g e
-moment_at P [] e g all = all.0
-moment_at P (x ∷ later) e g all = moment_at P later e g all.1
 
 -- entries in their order, before and after one of them, as a history
 pub split_back : (before after : List (ℕ × Entry)) (n : ℕ) (e : Entry) (first : List Entry)
@@ -53,7 +49,7 @@ none_left p told H before after first n front answer legal is none =
     let all : Legal p told (plain (reverse after) ++ Collect front answer ∷ past) =
     subst (Legal p told) (ap (λ (l : List (ℕ × Entry)). plain (reverse l) ++ first) is ∙ split_back before after n (Collect front answer) first) legal
     in
-    let fits : Fits p told past (Collect front answer) = moment_at (Fits p told) (plain (reverse after)) (Collect front answer) past all in
+    let fits : Fits p told past (Collect front answer) = at_moment (Fits p told) (plain (reverse after)) (Collect front answer) past all in
     none_due (due_replies past front) (is_stopped past) answer (fits_collect p told past front answer fits) none
 
 -- ---- the last round

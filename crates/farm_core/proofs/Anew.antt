@@ -14,6 +14,7 @@ use Rattle.farm_history.proofs.Counts.{count-cons}
 use Rattle.farm_history.proofs.Redrawn.{replies_none}
 use Rattle.farm_history.proofs.Resumed.{IsBare, styles_bare, styles_at, style_place}
 use Rattle.std.proofs.lemmas.Option.{slice_get-get_or}
+use Rattle.std.proofs.lemmas.Bool.{false≢true}
 use Rattle.farm_plan.specs.Plans.{FarmPlan, IsPlan}
 use Rattle.farm_plan.specs.Drawings.{plan_of, data_of}
 use Rattle.expiry_lists.specs.Marks.{MarksSeen, mark_of}
@@ -21,7 +22,7 @@ use Rattle.render_queues.specs.Tables.{no_tables}
 use Rattle.farm_refinement.specs.Stands.{waits_key, asked_of, failures, CountsStand, QueuesStand, StandsFor}
 use Rattle.farm_refinement.specs.inner.Events.{no_counts, new_farm}
 use Rattle.farm_refinement.proofs.Starting.{no_failures, start_step}
-use Rattle.farm_refinement.proofs.Resuming.{never, still_counted}
+use Rattle.farm_refinement.proofs.Resuming.{still_counted}
 use Rattle.render_jobs.specs.declared.faults.ResumeFault.TheVariants.{Number}
 use Rattle.render_jobs.specs.Given.{styles_given}
 use Rattle.farm_core.specs.inner.Replays.{IsReplaying}
@@ -94,7 +95,7 @@ module _ {D : Type 0} (state : D → Outside StoreTold) (plan : FarmPlan) (s : S
   none = None
 
   begun_stands : StandsFor state false (new_farm plan None store (replicate (length plan.maps) None) ms) []
-  begun_stands = start_step state false plan None store (replicate (length plan.maps) None) ms valid (none_styled (length plan.maps)) empty counted (λ t. absurd (never false refl t))
+  begun_stands = start_step state false plan None store (replicate (length plan.maps) None) ms valid (none_styled (length plan.maps)) empty counted (λ t. absurd (false≢true t))
 
   counts : CountsStand (record no_counts { turns = styles_given s.styles }) r
   unfolding is_stopped data_after numbers jobs asks_made done_asks stored_drawings
@@ -148,8 +149,8 @@ module _ {D : Type 0} (state : D → Outside StoreTold) (plan : FarmPlan) (s : S
       store_is = record {
         counted = subst (λ xs. min ((state store).faults + length xs) (2 ^ 64 - 1) ≤ (state store).faults) (sym (failures_styles plan s.styles [])) begun_stands.store_is.counted;
         accounts = still_counted plan (state store).faults [] r (failures_styles plan s.styles []) (state store).told begun_stands.store_is.accounts;
-        is_told = λ t. absurd (never false refl t);
-        holds = λ t. absurd (never false refl t);
+        is_told = λ t. absurd (false≢true t);
+        holds = λ t. absurd (false≢true t);
       };
     };
     unfailed = failures_styles plan s.styles [] ∙ no_failures plan;

@@ -1,8 +1,7 @@
 -- What no event changes of a farm.
-use Rattle.std.proofs.Common.{◌≡◌, ◌≢◌, ℕ, ◌-◌, Bool, true, false, ◌==◌, List, ◌++◌, length, Option, Some, None, refl, ap, ◌∙◌, arith, length-append}
-use Rattle.std.specs.Prelude.{Result, Ok, Err, option_map, codes, MatchOption}
-use Rattle.std.specs.List.{ends_with}
-use Rattle.std.proofs.Math.Seq.{drop-append_seam}
+use Rattle.std.proofs.Common.{◌≡◌, ◌≢◌, ℕ, Bool, true, false, List, Option, Some, None, refl, ap, ◌∙◌}
+use Rattle.std.specs.Prelude.{Result, Ok, Err, option_map, MatchOption}
+use Rattle.farm_refinement.proofs.Storing.{on_meta}
 use Rattle.farm_base.specs.Outside.{Outside}
 use Rattle.tile_store.specs.declared.stores.StoreFault.{StoreFault}
 use Rattle.tile_store.specs.declared.stores.StoreFault.TheVariants.{Failed, NoMemory}
@@ -22,19 +21,11 @@ use Rattle.farm_core.specs.inner.Effects.{EndsDrawing}
 abbrev saved_in : Option StoreTold → Option (Option (List ℕ))
 saved_in o = option_map (λ (t : StoreTold). t.content saved_path) o
 
-meta_end : (path front : List ℕ) → path ≡ front ++ codes ".meta" → ends_with (λ a b. a == b) path (codes ".meta") ≡ true
-meta_end path front is = ap (λ p. ends_with (λ a b. a == b) p (codes ".meta")) is ∙ go
-  where
-    go : ends_with (λ a b. a == b) (front ++ codes ".meta") (codes ".meta") ≡ true
-    go =
-        let long : length (front ++ codes ".meta") - 5 ≡ length front = omega (arith, length-append front (codes ".meta")) in
-        rw (long, drop-append_seam front (codes ".meta")) refl
-
 -- a metatile's path is not that of a saved farm
 saved_apart : (plan : FarmPlan) (k : Key) → IsKeyOf plan k → saved_path ≢ key_path plan k
 saved_apart plan k at same =
     let ends = path_ends plan k at in
-    let never : false ≡ true = meta_end saved_path ends.0 (same ∙ ends.1) in
+    let never : false ≡ true = on_meta saved_path ends.0 true (same ∙ ends.1) in
     cc
 
 puts_saved : (old new : Outside StoreTold) (path bytes : List ℕ) (r : Result (Unit {0}) StoreFault) → saved_path ≢ path → StorePuts old new path bytes r → at_saved new ≡ at_saved old

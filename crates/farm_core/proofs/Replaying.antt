@@ -2,7 +2,7 @@
 use Rattle.std.proofs.Common.{◌≡◌, ℕ, zero, suc, ◌+◌, ◌*◌, ◌/◌, ◌%◌, ◌<◌, ◌≤◌, Bool, true, false, ◌||◌, ◌&&◌, cond, ◌==◌, nat_lt, nat_le, List, [], ◌∷◌, length, get_or, drop, slice_get, Option, Some, None, refl, sym, ap, ◌∙◌, subst, arith}
 use Rattle.std.specs.List.{list_any}
 use Rattle.std.specs.Prelude.{MatchBool}
-use Rattle.std.proofs.lemmas.Bool.{eqb-true}
+use Rattle.std.proofs.lemmas.Bool.{eqb-true, leb-true}
 use Rattle.std.proofs.lemmas.Bool.Decides.{nat_tests}
 use Rattle.std.proofs.lemmas.List.{at_drop_more, at_drop_all}
 use Rattle.std.proofs.lemmas.Option.{slice_get_within}
@@ -128,13 +128,10 @@ eights x h = omega arith
 pub is_served : (plan : FarmPlan) (x : Kept) → CanReplay plan x → IsServed (plan_of plan) x.key
 is_served plan x can = go (slice_get plan.maps x.key.map) refl can.shows
   where
-    low : (z top : ℕ) → nat_le z top ≡ true → z ≤ top
-    low z top h = grind (arith, nat_tests)
-
     go : (o : Option MapPlan) → slice_get plan.maps x.key.map ≡ o → has_zoom o x.key.meta.z ≡ true → IsServed (plan_of plan) x.key
     go None is h = let never : false ≡ true = h in cc
     go (Some mp) is h = record {
-      servable = served plan (lowest x.key) x.key.map mp refl is (low x.key.meta.z mp.max_zoom h) (record { z_fits = can.meta.z_fits; x_fits = can.meta.x_fits; y_fits = can.meta.y_fits });
+      servable = served plan (lowest x.key) x.key.map mp refl is (leb-true x.key.meta.z mp.max_zoom h) (record { z_fits = can.meta.z_fits; x_fits = can.meta.x_fits; y_fits = can.meta.y_fits });
       key_is = λ i. record { map = x.key.map; meta = record { z = x.key.meta.z; x = eights x.key.meta.x can.meta.x_eights i; y = eights x.key.meta.y can.meta.y_eights i } };
     }
 

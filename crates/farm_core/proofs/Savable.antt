@@ -9,14 +9,13 @@ use Rattle.tile_store.specs.Stores.{StoreTold}
 use Rattle.farm_history.specs.declared.keys.Kept.{Kept}
 use Rattle.farm_history.specs.Entries.{Entry}
 use Rattle.farm_history.specs.Lists.{Each}
-use Rattle.farm_history.specs.Plans.{AreApart, same_key}
 use Rattle.farm_history.specs.Past.{version, style_after, shown, is_touched_after}
 use Rattle.farm_history.specs.Rules.{Legal}
-use Rattle.farm_history.specs.Replays.{Saving, changes_after, past_number, kept_of, kept_version, version_if_fresh, IsSaved}
-use Rattle.farm_history.proofs.Lists.{same_key-self, same_key-sym, each-map, each-both, none-each}
+use Rattle.farm_history.specs.Replays.{Saving, changes_after, kept_of, kept_version, version_if_fresh, IsSaved}
+use Rattle.farm_history.proofs.Lists.{each-map}
 use Rattle.farm_history.proofs.Keyed.{shown_served}
-use Rattle.farm_history.proofs.Since.{data_changes, clean_since, style_fits, style_in_table}
-use Rattle.farm_history.proofs.Resumed.{rising_apart}
+use Rattle.farm_history.proofs.Since.{clean_since, style_fits, style_in_table}
+use Rattle.farm_history.proofs.Resumed.{rising_apart, each_own, as_many}
 use Rattle.farm_plan.specs.Plans.{Restyle, FarmPlan, IsPlan}
 use Rattle.farm_plan.specs.Drawings.{plan_of}
 use Rattle.farm_plan.proofs.Spots.{served_key}
@@ -29,20 +28,6 @@ use Rattle.farm_core.specs.inner.Saves.{IsSavingOf}
 all_each : {X : Type 0} (P : X → Type 0) (xs : List X) → Each P xs → All P xs
 all_each P [] h = All-nil P
 all_each P (x ∷ xs) h = All-cons P x xs h.0 (all_each P xs h.1)
-
--- each is the one that is kept of its key
-each_own : (xs : List Kept) → AreApart (λ (x : Kept). x.key) xs → Each (λ (x : Kept). kept_of xs x.key ≡ Some x) xs
-each_own [] apart = tt
-each_own (x ∷ xs) apart = (
-  ap (λ b. cond b (Some x) (kept_of xs x.key)) (same_key-self x.key),
-  each-map _ _ xs later (each-both (λ (y : Kept). kept_of xs y.key ≡ Some y) (λ (y : Kept). same_key y.key x.key ≡ false) xs (each_own xs apart.1) (none-each (λ (y : Kept). same_key y.key x.key) xs apart.0)),
-)
-  where
-    later : (y : Kept) → (kept_of xs y.key ≡ Some y) × (same_key y.key x.key ≡ false) → kept_of (x ∷ xs) y.key ≡ Some y
-    later y h = ap (λ b. cond b (Some x) (kept_of xs y.key)) (same_key-sym x.key y.key ∙ h.1) ∙ h.0
-
-as_many : (h : List Entry) → length (changes_after h) ≡ version h
-as_many h = sym (ap length (data_changes h) ∙ length-map (changes_after h) past_number)
 
 module _ (plan : FarmPlan) (told : Bool) (h : List Entry) (s : Saving) (valid : IsPlan plan) (legal : Legal (plan_of plan) told h) (saved : IsSaved (plan_of plan) h s) where
   kept_one : (x : Kept) → kept_of s.clean x.key ≡ Some x → IsKept (length s.updates) x

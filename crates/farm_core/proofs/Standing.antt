@@ -1,12 +1,12 @@
 -- Where a key stands: at most once, so that the first place where it is found is the only one.
 use Rattle.std.proofs.Common.{◌≡◌, ℕ, ◌+◌, ◌≤◌, Bool, true, false, ◌||◌, not, cond, List, [], ◌∷◌, find, Option, Some, None, refl, ap, subst, arith}
+use Rattle.render_queues.proofs.Counted.{there_once}
 use Rattle.farm_history.specs.declared.keys.Key.{Key}
 use Rattle.farm_history.specs.declared.queues.Queue.{Queue}
 use Rattle.farm_history.specs.declared.queues.Outcome.{Outcome}
 use Rattle.farm_history.specs.declared.queues.Reply.{Reply}
 use Rattle.farm_history.specs.Plans.{same_key, same_queue, is_in}
 use Rattle.farm_history.proofs.Lists.{any-filter_off}
-use Rattle.farm_history.proofs.Counts.{count-cons}
 use Rattle.farm_history.specs.Lists.{without_first}
 use Rattle.render_queues.specs.declared.standing.Standing.{Standing}
 use Rattle.render_queues.specs.declared.standing.Standing.TheVariants.{Waits as InLine, Taken}
@@ -16,19 +16,11 @@ use Rattle.farm_core.specs.inner.Asks.{StandsBy}
 use Rattle.farm_refinement.specs.inner.Events.{waits_at}
 
 -- one that is among them is counted
-often_in : (k : Key) (keys : List Key) → is_in k keys ≡ true → 1 ≤ how_often k keys
-often_in k [] never = let n : false ≡ true = never in cc
-often_in k (x ∷ xs) h = go (same_key x k) (count-cons (λ (y : Key). same_key y k) x xs) h (often_in k xs)
-  where
-    go : (b : Bool) → how_often k (x ∷ xs) ≡ cond b 1 0 + how_often k xs → b || is_in k xs ≡ true → (is_in k xs ≡ true → 1 ≤ how_often k xs) → 1 ≤ how_often k (x ∷ xs)
-    go true is h ih = omega (arith, is)
-    go false is h ih = omega (arith, is, ih h)
-
 pub often : (k : Key) (keys : List Key) → cond (is_in k keys) 1 0 ≤ how_often k keys
 often k keys = go (is_in k keys) refl
   where
     go : (b : Bool) → is_in k keys ≡ b → cond b 1 0 ≤ how_often k keys
-    go true is = often_in k keys is
+    go true is = there_once k keys is
     go false is = omega arith
 
 -- of these six places a key stands in at most one

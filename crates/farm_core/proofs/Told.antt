@@ -60,7 +60,7 @@ get_set (y ∷ ys) (suc i) (suc j) x lt = get_set ys i j x (omega (arith, lt)) �
     same m n = grind (arith, nat_tests)
 
 -- where a list has nothing, it has ended
-none_past : {X : Type 0} (xs : List X) (i : ℕ) → slice_get xs i ≡ None → length xs ≤ i
+pub none_past : {X : Type 0} (xs : List X) (i : ℕ) → slice_get xs i ≡ None → length xs ≤ i
 none_past [] i e = omega arith
 none_past (x ∷ xs) zero e = let never : Some x ≡ None = e in cc
 none_past (x ∷ xs) (suc i) e = omega (arith, none_past xs i e)

@@ -168,9 +168,6 @@ follows_then (reads name on) f old middle new a result (inr r) next =
 stop_is : (A B : Type 0) (s q : Stop) → ended {A = A} s ≡ ended q → ended {A = B} s ≡ ended q
 stop_is A B s q e = let same : s ≡ q = cc in ap (λ (x : Stop). ended {A = B} x) same
 
-stop_not : (A : Type 0) (s : Stop) (v : A) → ended s ≡ Ok v → ⊥
-stop_not A s v e = cc
-
 wanting_at : (B : Type 0) (c : Course B) (old new : FilesAt) (s : Stop) → s ≡ stop.NoMemory → new ≡ old → Follows c old new (ended {A = B} s)
 wanting_at B c old new s e same =
     subst (λ (at : FilesAt). Follows c old at (ended {A = B} s)) (sym same)
@@ -188,7 +185,7 @@ stop_after A B name on f middle new s (Err file.NoMemory) more (inr e, same) = (
 
 -- where the first came to an early end
 pub follows_stop : (A B : Type 0) (c : Course A) (f : A → Course B) (old new : FilesAt) (s : Stop) → Follows c old new (ended {A = A} s) → Follows (c >>= f) old new (ended {A = B} s)
-follows_stop A B (made v) f old new s (inl e, same) = absurd (stop_not A s v e)
+follows_stop A B (made v) f old new s (inl e, same) = absurd (cc)
 follows_stop A B (made v) f old new s (inr e, same) = wanting_at B (f v) old new s (let is : s ≡ stop.NoMemory = cc in is) same
 follows_stop A B (refused line) f old new s (inl e, same) = (inl (stop_is A B s (stop.Refused line) e), same)
 follows_stop A B (refused line) f old new s (inr e, same) = (inr (stop_is A B s stop.NoMemory e), same)

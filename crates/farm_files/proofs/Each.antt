@@ -1,6 +1,6 @@
 -- A list of courses that is followed item by item.
-use Rattle.std.proofs.Common.{◌≡◌, ℕ, ◌+◌, ◌<◌, inl, List, [], ◌∷◌, ◌++◌, length, get_or, drop, drop-cons, add-one, refl, sym, ap, subst, ◌∙◌, append_assoc}
-use Rattle.std.proofs.lemmas.List.{append-nil}
+use Rattle.std.proofs.Common.{◌≡◌, ℕ, ◌+◌, ◌<◌, inl, List, [], ◌∷◌, ◌++◌, length, get_or, drop, refl, sym, ap, subst, ◌∙◌, append_assoc}
+use Rattle.std.proofs.lemmas.List.{append-nil, drop_more}
 use Rattle.std.specs.Prelude.{Result, Ok}
 use Rattle.exit_status.specs.Ends.{FilesAt}
 use Rattle.exit_status.specs.declared.stops.Stop.{Stop}
@@ -38,15 +38,12 @@ abbrev pub Goes : {A V : Type 0} → (A → Course V) → List A → List V → 
 Goes {A} {V} course all before left old middle =
     (end : FilesAt) → (result : Result (List V) Stop) → Follows (each_from course before left) middle end result → Follows (each_from course [] all) old end result
 
-left_is : {A : Type 0} (all : List A) (i : ℕ) (x : A) → i < length all → x ≡ get_or all i x → drop i all ≡ x ∷ drop (i + 1) all
-left_is all i x small at = rw (add-one i, drop-cons all i x small, ← at) refl
-
 pub each_more : {A V : Type 0} (course : A → Course V) (all : List A) (loaded more : List V) (i : ℕ) (x : A) (y : V) (old middle new : FilesAt)
     → i < length all → x ≡ get_or all i x → more ≡ loaded ++ y ∷ [] → Goes course all loaded (drop i all) old middle → Follows (course x) middle new (Ok y)
     → Goes course all more (drop (i + 1) all) old new
 each_more {A} {V} course all loaded more i x y old middle new small at pushed goes followed end result h =
     goes end result
-    (subst (λ (xs : List A). Follows (each_from course loaded xs) middle end result) (sym (left_is all i x small at))
+    (subst (λ (xs : List A). Follows (each_from course loaded xs) middle end result) (ap (λ (y : A). y ∷ drop (i + 1) all) at ∙ sym (drop_more all i x small))
     (follows_then (course x) (λ z. each_from course (loaded ++ z ∷ []) (drop (i + 1) all)) middle new end y result followed
     (subst (λ (b : List V). Follows (each_from course b (drop (i + 1) all)) new end result) pushed h)))
 
@@ -62,7 +59,7 @@ pub each_stops : {A : Type 0} (V : Type 0) (course : A → Course V) (all : List
 each_stops {A} V course all loaded i x s old middle new small at goes followed =
     subst (λ (c : Course (List V)). Follows c old new (ended {A = List V} s)) (each_all course all)
     (goes new (ended {A = List V} s)
-    (subst (λ (xs : List A). Follows (each_from course loaded xs) middle new (ended {A = List V} s)) (sym (left_is all i x small at))
+    (subst (λ (xs : List A). Follows (each_from course loaded xs) middle new (ended {A = List V} s)) (ap (λ (y : A). y ∷ drop (i + 1) all) at ∙ sym (drop_more all i x small))
     (follows_stop V (List V) (course x) (λ z. each_from course (loaded ++ z ∷ []) (drop (i + 1) all)) middle new s followed)))
 
 pub each_wanting : {A : Type 0} (V : Type 0) (course : A → Course V) (all : List A) (loaded : List V) (i : ℕ) (x : A) (y : V) (old middle new : FilesAt)
@@ -71,6 +68,6 @@ pub each_wanting : {A : Type 0} (V : Type 0) (course : A → Course V) (all : Li
 each_wanting {A} V course all loaded i x y old middle new small at goes followed =
     subst (λ (c : Course (List V)). Follows c old new (ended {A = List V} stop.NoMemory)) (each_all course all)
     (goes new (ended {A = List V} stop.NoMemory)
-    (subst (λ (xs : List A). Follows (each_from course loaded xs) middle new (ended {A = List V} stop.NoMemory)) (sym (left_is all i x small at))
+    (subst (λ (xs : List A). Follows (each_from course loaded xs) middle new (ended {A = List V} stop.NoMemory)) (ap (λ (y : A). y ∷ drop (i + 1) all) at ∙ sym (drop_more all i x small))
     (follows_then (course x) (λ z. each_from course (loaded ++ z ∷ []) (drop (i + 1) all)) middle new new y (ended {A = List V} stop.NoMemory) followed
     (follows_wanting (each_from course (loaded ++ y ∷ []) (drop (i + 1) all)) new))))

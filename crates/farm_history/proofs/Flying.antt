@@ -2,6 +2,7 @@
 use Rattle.std.proofs.Common.{◌≡◌, ℕ, Bool, true, false, cond, ◌==◌, List, [], ◌∷◌, ◌++◌, length, map, filter, find, Option, Some, None, option_map, refl, sym, ap, ap₂, ◌∙◌, arith, append_assoc, append-nil, length-append}
 use Rattle.std.specs.Option.{option_or}
 use Rattle.std.proofs.lemmas.Bool.Decides.{nat_tests}
+use Rattle.std.proofs.lemmas.List.{nil_from_length}
 use Rattle.farm_history.specs.declared.answers.ClaimAnswer.TheVariants.{Job}
 use Rattle.farm_history.specs.declared.answers.Updated.{Updated}
 use Rattle.farm_history.specs.declared.answers.Renewed.{Renewed}
@@ -92,12 +93,8 @@ begins h t f is = each-find (λ (x : Flight). Begins x.before h) _ (flights h) f
 pub data_before : (h : List Entry) (t : ℕ) (f : Flight) → flight_in (flights h) t ≡ Some f → version f.before ≡ version h → data_after f.before ≡ data_after h
 data_before h t f is same = go (begins h t f is)
   where
-    none : (xs : List ℕ) → length xs ≡ 0 → xs ≡ []
-    none [] e = refl
-    none (x ∷ xs) e = let never : length (x ∷ xs) ≡ 0 = e in absurd (omega (arith, never))
-
     go : Begins f.before h → data_after f.before ≡ data_after h
     go b =
         let long = ap length b.data_are ∙ length-append (data_after f.before) b.later in
-        let empty : b.later ≡ [] = none b.later (omega (arith, long, same)) in
+        let empty : b.later ≡ [] = nil_from_length b.later (omega (arith, long, same)) in
         sym (b.data_are ∙ (ap (λ xs. data_after f.before ++ xs) empty ∙ append-nil (data_after f.before)))

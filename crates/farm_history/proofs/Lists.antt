@@ -30,6 +30,19 @@ pub any-filter : {X : Type 0} (p q : X → Bool) (xs : List X) → list_any p (f
 any-filter p q [] h = h
 any-filter p q (x ∷ xs) h = grind (arith, any-filter p q xs)
 
+-- what passes in a filtered list passes both
+pub any-both : {X : Type 0} (p q : X → Bool) (xs : List X) → list_any p (filter q xs) ≡ list_any (λ x. q x && p x) xs
+any-both p q [] = refl
+any-both p q (x ∷ xs) = go (q x) (any-both p q xs)
+  where
+    go : (b : Bool) → list_any p (filter q xs) ≡ list_any (λ y. q y && p y) xs → list_any p (cond b (x ∷ filter q xs) (filter q xs)) ≡ ((b && p x) || list_any (λ y. q y && p y) xs)
+    go true ih = ap (λ c. p x || c) ih
+    go false ih = ih
+
+pub any-map : {X Y : Type 0} (f : X → Y) (p : Y → Bool) (xs : List X) → list_any p (map f xs) ≡ list_any (λ x. p (f x)) xs
+any-map f p [] = refl
+any-map f p (x ∷ xs) = ap (λ b. p (f x) || b) (any-map f p xs)
+
 pub not_any : {X : Type 0} (p q : X → Bool) (xs : List X) → list_any p xs ≡ false → list_any p (filter q xs) ≡ false
 not_any p q [] h = h
 not_any p q (x ∷ xs) h = grind (arith, not_any p q xs)

@@ -337,6 +337,19 @@ all_not : {X : Type 0} (q r : X → Bool) (xs : List X) → ((x : X) → q x ≡
 all_not q r [] f h = refl
 all_not q r (x ∷ xs) f h = let here : q x ≡ true = grind arith in let rest : list_all q xs ≡ true = grind arith in let no_one = f x here in let others = all_not q r xs f rest in grind arith
 
+-- an order by one number and then another
+lex_then : (a b c : ℕ) (t u v : Bool) → (t ≡ true → u ≡ true → v ≡ true) → (nat_lt a b || ((a == b) && t)) ≡ true → (nat_lt b c || ((b == c) && u)) ≡ true → (nat_lt a c || ((a == c) && v)) ≡ true
+lex_then a b c t u v rest first second = grind (arith, nat_tests, rest)
+
+last_then : (a b c : ℕ) → nat_lt a b ≡ true → nat_lt b c ≡ true → nat_lt a c ≡ true
+last_then a b c first second = grind (arith, nat_tests)
+
+-- the key before another that is before a third is before the third
+pub key_before-then : (a b c : Key) → key_before a b ≡ true → key_before b c ≡ true → key_before a c ≡ true
+key_before-then a b c =
+    lex_then a.map b.map c.map _ _ _
+    (lex_then a.meta.z b.meta.z c.meta.z _ _ _ (lex_then a.meta.x b.meta.x c.meta.x _ _ _ (last_then a.meta.y b.meta.y c.meta.y)))
+
 before_other : (a b : Key) → key_before a b ≡ true → same_key b a ≡ false
 before_other a b h = grind (arith, nat_tests)
 

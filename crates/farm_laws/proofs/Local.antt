@@ -25,6 +25,7 @@ use Rattle.drawing_reach.proofs.Edges.{by_edges}
 use Rattle.drawing_reach.proofs.Unreached.{unreached}
 use Rattle.std.proofs.lemmas.List.Elements.{recursion_from_All}
 use Rattle.std.specs.List.{AllByRecursion}
+use Rattle.std.proofs.lemmas.Bool.{false_from_ne_true}
 use Rattle.farm_history.specs.Plans.{key_of, map_of, is_servable}
 use Rattle.farm_history.specs.Plans as plans
 use Rattle.farm_history.specs.Lists.{Each}
@@ -211,15 +212,11 @@ wider t p tile h = go (nat_le 3 t.z) refl
 
 -- a feature that does not reach the metatile's square does not reach the tile's
 far_tile : (f : Feature) (size : ℕ) (t : Tile) → IsTile t → feature_reaches f size t.z (meta_square (meta_of t)) ≡ false → feature_reaches f size t.z (tile_square t) ≡ false
-far_tile f size t tile off = by (feature_reaches f size t.z (tile_square t)) (λ on.
+far_tile f size t tile off = false_from_ne_true (feature_reaches f size t.z (tile_square t)) (λ on.
     let r = (by_edges f size t.z (tile_square t)).0 on in
     let wide : Reaches f size t.z (meta_square (meta_of t)) = (r.0, r.1, wider t r.0 tile r.2) in
     let never : feature_reaches f size t.z (meta_square (meta_of t)) ≡ true = (by_edges f size t.z (meta_square (meta_of t))).1 wide in
     cc)
-  where
-    by : (b : Bool) → (b ≡ true → ⊥) → b ≡ false
-    by true h = absurd (h refl)
-    by false h = refl
 
 -- ---- updates of a plan
 

@@ -2,6 +2,7 @@
 use Rattle.std.proofs.Common.{◌≡◌, ℕ, ◌<◌, ◌≤◌, Bool, true, false, ◌&&◌, ◌||◌, ◌==◌, nat_lt, List, [], ◌∷◌, ◌++◌, length, slice_get, Option, Some, None, refl, sym, ap, ap₂, ◌∙◌, subst, arith}
 use Rattle.std.proofs.lemmas.Bool.Decides.{nat_tests}
 use Rattle.std.proofs.lemmas.Bool.{ltb-true}
+use Rattle.std.proofs.lemmas.Option.{same_Some}
 use Rattle.farm_history.specs.Lists.{Each}
 use Rattle.farm_history.specs.declared.keys.Key.{Key}
 use Rattle.farm_history.specs.declared.queues.Conn.{Conn}
@@ -161,9 +162,6 @@ answered p told g r legal s =
 
 -- ---- what is sent as clean
 
-one : (o : Option (List Entry)) (a b : List Entry) → o ≡ Some a → o ≡ Some b → a ≡ b
-one o a b x y = let e : Some a ≡ Some b = sym x ∙ y in cc
-
 sent : (plan : FarmPlan) (tells : Type 0) (told : Bool) (g : List Entry) (spot : Spot) (v : ℕ) (bytes : List ℕ) → IsPlan plan → Legal (plan_of plan) told (Fetch spot (Fetched.Clean v bytes) ∷ g) →
     (tells → Legal (plan_of plan) true (Fetch spot (Fetched.Clean v bytes) ∷ g)) → IsClean plan tells g spot v bytes
 unfolding Fits plan_of
@@ -179,7 +177,7 @@ sent plan tells told g spot v bytes valid legal legal_told =
       version_is = (s.version_is, s.version_is);
       plain = λ so.
           let q = sent_clean (plan_of plan) true g spot v bytes (legal_told so).0 in
-          let same : q.before ≡ s.before = one _ q.before s.before q.is_shown s.is_shown in
+          let same : q.before ≡ s.before = same_Some q.before s.before (sym q.is_shown ∙ s.is_shown) in
           record {
             map = m.map;
             is_map = m.is_map;

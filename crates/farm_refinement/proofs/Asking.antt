@@ -17,7 +17,7 @@ use Rattle.farm_history.specs.Rules.{ask_rule, Fits}
 use Rattle.farm_history.specs.inner.Asks.{answer_by, tests_of}
 use Rattle.farm_history.specs.Seen.{dirtied, Taken, taken_of, is_clean_mark}
 use Rattle.farm_history.specs.Replays.{changes_after}
-use Rattle.farm_history.proofs.Lists.{same_key-self}
+use Rattle.farm_history.proofs.Lists.{same_key-self, any-map}
 use Rattle.farm_history.proofs.Apart.{ask_dirty, ask_render, kept}
 use Rattle.farm_plan.specs.Plans.{FarmPlan}
 use Rattle.farm_plan.specs.Drawings.{plan_of}
@@ -28,7 +28,6 @@ use Rattle.farm_refinement.specs.Stands.{failures, StandsFor}
 use Rattle.farm_refinement.specs.inner.Events.{one_turn_more, asked_counts, tests_at, asked_tables, marked_tables, dirtied_taken}
 use Rattle.farm_refinement.proofs.Storing.{store_quiet}
 use Rattle.farm_refinement.proofs.Counting.{IsUncounted, counts_turn, counts_ask}
-use Rattle.farm_refinement.proofs.Lining.{any-map}
 use Rattle.farm_refinement.proofs.Queueing.{flies_at, waits_are, waits_there, room_is, open_of_is, open_count_is, lifted_by, queues_ask, queues_mark, queues_unmarked}
 use Rattle.farm_refinement.proofs.Marking.{clean_is}
 use Rattle.farm_refinement.proofs.Stepping.{LeavesAll, quiet, touching}

@@ -1,40 +1,21 @@
 -- The five queues of the tables against what waits after a history.
-use Rattle.std.proofs.Common.{◌≡◌, Bool, true, false, not, ◌&&◌, ◌||◌, cond, nat_lt, List, [], ◌∷◌, ◌++◌, length, map, filter, slice_get, Option, Some, None, option_map, refl, sym, ap, ap₂, ◌∙◌, subst, arith, append-nil}
-use Rattle.std.specs.List.{list_any}
+use Rattle.std.proofs.Common.{◌≡◌, Bool, true, false, not, ◌&&◌, ◌||◌, cond, nat_lt, List, [], ◌∷◌, ◌++◌, length, map, slice_get, Option, Some, None, option_map, refl, sym, ap, ap₂, ◌∙◌, subst, arith, append-nil}
 use Rattle.std.specs.Option.{option_or}
 use Rattle.std.proofs.lemmas.List.{map-append, length-map}
 use Rattle.std.proofs.lemmas.Bool.Decides.{nat_tests}
+use Rattle.render_queues.proofs.Keys.{without_absent}
 use Rattle.farm_history.specs.declared.keys.Key.{Key}
 use Rattle.farm_history.specs.declared.queues.Queue.{Queue}
 use Rattle.farm_history.specs.declared.queues.Limits.{Limits}
 use Rattle.farm_history.specs.Lists.{Each}
 use Rattle.farm_history.specs.Plans.{Waits, AreApart, same_key, same_queue, is_in, limit_of, waits_in, waits_in_queue, without_key, has_room, first_in, next}
 use Rattle.farm_history.specs.Seen.{in_queue}
-use Rattle.farm_history.proofs.Lists.{same_key-true, find-any, find-passes, each-map, each-passes, none-each, filter-all, map-filter}
+use Rattle.farm_history.proofs.Lists.{same_key-true, find-any, find-passes, each-passes, map-filter, any-map, any-both}
 use Rattle.farm_history.proofs.Queued.{how_many_in_queue, in_queue_append, in_queue_without, find_first}
 use Rattle.render_queues.specs.OneQueue.{Lines, is_below, without}
 use Rattle.render_queues.specs.Tables.{line_of, with_last, cut_from, lifted_out, first_of, next_of}
 use Rattle.render_queues.proofs.History.{same_queue-true}
 use Rattle.farm_refinement.specs.Stands.{waits_key}
-
--- ---- words for lists
-
-pub any-map : {X Y : Type 0} (f : X → Y) (p : Y → Bool) (xs : List X) → list_any p (map f xs) ≡ list_any (λ x. p (f x)) xs
-any-map f p [] = refl
-any-map f p (x ∷ xs) = ap (λ b. p (f x) || b) (any-map f p xs)
-
--- what passes in a filtered list passes both
-pub any-both : {X : Type 0} (p q : X → Bool) (xs : List X) → list_any p (filter q xs) ≡ list_any (λ x. q x && p x) xs
-any-both p q [] = refl
-any-both p q (x ∷ xs) = go (q x) (any-both p q xs)
-  where
-    go : (b : Bool) → list_any p (filter q xs) ≡ list_any (λ y. q y && p y) xs → list_any p (cond b (x ∷ filter q xs) (filter q xs)) ≡ ((b && p x) || list_any (λ y. q y && p y) xs)
-    go true ih = ap (λ c. p x || c) ih
-    go false ih = ih
-
--- a key that is not there may be taken out
-pub without_absent : (k : Key) (ks : List Key) → is_in k ks ≡ false → without k ks ≡ ks
-without_absent k ks absent = filter-all _ ks (each-map _ _ ks (λ x h. ap not h) (none-each (λ x. same_key x k) ks absent))
 
 -- ---- lines
 

@@ -3,6 +3,7 @@ use Rattle.std.proofs.Common.{◌≡◌, ℕ, ◌+◌, Bool, true, false, not, �
 use Rattle.std.specs.List.{list_any}
 use Rattle.std.proofs.lemmas.List.{map-append}
 use Rattle.std.proofs.lemmas.Bool.Decides.{nat_tests}
+use Rattle.render_queues.proofs.Keys.{without_absent}
 use Rattle.farm_history.specs.declared.keys.Key.{Key}
 use Rattle.farm_history.specs.declared.queues.Conn.{Conn}
 use Rattle.farm_history.specs.declared.queues.Queue.{Queue}
@@ -24,7 +25,7 @@ use Rattle.farm_history.specs.Past.{Flight, is_stopped, flights, flight_in, with
 use Rattle.farm_history.specs.inner.Asks.{Tests, answer_of_waiting, answer_by}
 use Rattle.farm_history.specs.Laws.{flight_key}
 use Rattle.farm_history.specs.Seen.{in_queue, waiting_asks, outbox, chain_after}
-use Rattle.farm_history.proofs.Lists.{same_key-self, same_key-sym, find-not, each-map, none-each, filter-all, map-filter}
+use Rattle.farm_history.proofs.Lists.{same_key-self, same_key-sym, find-not, each-map, none-each, filter-all, map-filter, any-map}
 use Rattle.farm_history.proofs.Numbers.{flight_ticket}
 use Rattle.farm_history.proofs.OneReply.{IsOpen}
 use Rattle.farm_history.proofs.Replies.{IsReplyIn}
@@ -40,7 +41,7 @@ use Rattle.render_queues.specs.Tables.{Tables, line_of, after_place, after_take,
 use Rattle.farm_refinement.specs.Stands.{waits_key, asked_of, QueuesStand}
 use Rattle.farm_refinement.specs.inner.Events as events
 use Rattle.farm_refinement.specs.inner.Events.{asked_tables, waiter, waits_at, marked_tables, stale_tables}
-use Rattle.farm_refinement.proofs.Lining.{without_absent, any-map, AreLines, in_line, limit_pushed, limit_cut, limit_lifted, lines_pushed, lines_cut, lines_lifted, below_is, waits_lines, next_is, next_there}
+use Rattle.farm_refinement.proofs.Lining.{AreLines, in_line, limit_pushed, limit_cut, limit_lifted, lines_pushed, lines_cut, lines_lifted, below_is, waits_lines, next_is, next_there}
 
 -- ---- an entry that changes nothing of what waits, flies or is asked
 

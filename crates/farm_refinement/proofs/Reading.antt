@@ -3,6 +3,7 @@ use Rattle.std.proofs.Common.{◌≡◌, ℕ, Bool, true, false, not, cond, List
 use Rattle.std.specs.Prelude.{IfSome, MatchBool}
 use Rattle.std.specs.Bool.{OnTrue}
 use Rattle.std.proofs.lemmas.Bool.{false_from_ne_true}
+use Rattle.std.proofs.lemmas.Option.{same_Some}
 use Rattle.farm_base.specs.declared.faults.MetaFault.{MetaFault}
 use Rattle.farm_base.specs.Outside.{Outside}
 use Rattle.tile_store.specs.Stores.{StoreTold}
@@ -77,9 +78,6 @@ comes plan spot styled layers at = subst (λ text. Comes plan spot styled layers
         × (entry.size ≡ length (tile_at m (tiles_of style at.map.tile m layers) t))
     back = entries_come_back m (tiles_of style at.map.tile m layers) t (drawn_are_tiles style at.map.tile m layers (meta_is plan spot at) at.valid.sized) at.tile refl
 
-one_text : (x y : List ℕ) → Some x ≡ Some y → x ≡ y
-one_text x y e = cc
-
 one_entry : (x y : Span) → ◌≡◌ {A = Result Span MetaFault} (Ok x) (Ok y) → x ≡ y
 one_entry x y e = cc
 
@@ -87,7 +85,7 @@ one_entry x y e = cc
 part_drawn : (plan : FarmPlan) (spot : Spot) (styled : Option ℕ) (layers : List Layer) (text bytes : List ℕ) (content : Option (List ℕ)) → Comes plan spot styled layers text → content ≡ Some text → IsTilePart content (key_of spot).meta (index_place (spot_tile spot)) bytes →
     bytes ≡ tile_in plan (slice_get plan.maps (map_of spot)) styled (spot_tile spot) layers
 part_drawn plan spot styled layers text bytes content c held part =
-    let same : text ≡ part.held = one_text text part.held (sym held ∙ part.is_held) in
+    let same : text ≡ part.held = same_Some text part.held (sym held ∙ part.is_held) in
     let found : ◌≡◌ {A = Result Span MetaFault} (Ok c.entry) (Ok part.entry) = sym c.is_entry ∙ (ap (λ (x : List ℕ). entry_found (take head_len x) (key_of spot).meta (index_place (spot_tile spot))) same ∙ part.is_entry) in
     let entry : c.entry ≡ part.entry = one_entry c.entry part.entry found in
     part.bytes_are ∙ (ap₂ (λ (x : Span) (y : List ℕ). take x.size (drop x.offset y)) (sym entry) (sym same) ∙ c.part_is)
@@ -95,7 +93,7 @@ part_drawn plan spot styled layers text bytes content c held part =
 -- and it is not spoilt
 not_spoilt : (plan : FarmPlan) (spot : Spot) (styled : Option ℕ) (layers : List Layer) (text : List ℕ) (content : Option (List ℕ)) (fault : MetaFault) → Comes plan spot styled layers text → content ≡ Some text → IsSpoilt content (key_of spot).meta (index_place (spot_tile spot)) fault → ⊥
 not_spoilt plan spot styled layers text content fault c held spoilt =
-    let same : text ≡ spoilt.held = one_text text spoilt.held (sym held ∙ spoilt.is_held) in
+    let same : text ≡ spoilt.held = same_Some text spoilt.held (sym held ∙ spoilt.is_held) in
     let found : entry_found (take head_len spoilt.held) (key_of spot).meta (index_place (spot_tile spot)) ≡ Ok c.entry = ap (λ (x : List ℕ). entry_found (take head_len x) (key_of spot).meta (index_place (spot_tile spot))) (sym same) ∙ c.is_entry in
     let by = subst (SpoiltBy spoilt.held (index_place (spot_tile spot)) fault) found spoilt.spoilt in
     let short = by.1 in

@@ -1,6 +1,7 @@
 -- A farm that is resumed: it stands for the replay of what was saved, piece by piece.
 use Rattle.std.proofs.Common.{◌≡◌, ℕ, ◌+◌, ◌-◌, ◌^◌, ◌<◌, ◌≤◌, min, Bool, true, false, not, cond, if◌then◌else◌, List, [], ◌∷◌, ◌++◌, length, map, filter, Option, Some, None, is_some, option_map, Ok, refl, sym, ap, ap₂, ◌∙◌, subst, arith}
 use Rattle.std.specs.Prelude.{IfSome}
+use Rattle.std.proofs.lemmas.Bool.{false≢true}
 use Rattle.farm_base.specs.Outside.{Outside}
 use Rattle.tile_store.specs.Stores.{StoreTold}
 use Rattle.plain_shapes.specs.Features.{Layer}
@@ -93,15 +94,12 @@ pub still_counted : (plan : FarmPlan) (since : ℕ) (g h : List Entry) → failu
 still_counted plan since g h same None a = tt
 still_counted plan since g h same (Some t) a = record { began = a.began; failed = a.failed ∙ sym same }
 
-pub never : (told : Bool) → told ≡ false → told ≡ true → ⊥
-never told is h = let wrong : false ≡ true = sym is ∙ h in cc
-
 untold : (plan : FarmPlan) (since : ℕ) (g h : List Entry) (now : Outside StoreTold) → failures plan h ≡ failures plan g → StoreStands plan since false g now → StoreStands plan since false h now
 untold plan since g h now same s = record {
   counted = subst (λ xs. min (since + length xs) (2 ^ 64 - 1) ≤ now.faults) (sym same) s.counted;
   accounts = still_counted plan since g h same now.told s.accounts;
-  is_told = λ t. absurd (never false refl t);
-  holds = λ t. absurd (never false refl t);
+  is_told = λ t. absurd (false≢true t);
+  holds = λ t. absurd (false≢true t);
 }
 
 -- a valid plan has a worker, and room in its bulk queue

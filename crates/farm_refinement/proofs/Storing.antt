@@ -52,7 +52,7 @@ store_quiet plan since told g e now unfailed same s = record {
 -- A call that failed.
 
 -- one more failed call on a path that ends in `.meta`
-on_meta : (path front : List ℕ) (put : Bool) → path ≡ front ++ codes ".meta" → is_on_meta (record { name = path; put = put }) ≡ true
+pub on_meta : (path front : List ℕ) (put : Bool) → path ≡ front ++ codes ".meta" → is_on_meta (record { name = path; put = put }) ≡ true
 on_meta path front put is = ap (λ p. ends_with (λ a b. a == b) p (codes ".meta")) is ∙ go
   where
     go : ends_with (λ a b. a == b) (front ++ codes ".meta") (codes ".meta") ≡ true

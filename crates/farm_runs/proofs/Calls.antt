@@ -1,7 +1,8 @@
 -- From the calls of a run to what happened to its first seat.
-use Rattle.std.proofs.Common.{◌≡◌, ℕ, suc, ◌+◌, ◌<◌, Bool, true, false, ◌||◌, Option, refl, List, [], ◌∷◌, ◌++◌, length, slice_index_or, All, None, Some, zero, sym, ap, ◌∙◌, subst, arith, append_assoc, append-nil, length-append}
+use Rattle.std.proofs.Common.{◌≡◌, ℕ, suc, ◌+◌, ◌<◌, Bool, true, false, ◌||◌, Option, refl, List, [], ◌∷◌, ◌++◌, length, slice_index_or, All, None, zero, sym, ap, ◌∙◌, subst, arith, append_assoc, append-nil, length-append}
 use Rattle.std.specs.List.{list_any}
 use Rattle.std.proofs.lemmas.List.Elements.{All-append}
+use Rattle.std.proofs.lemmas.Option.{same_Some}
 use Rattle.farm_base.specs.Outside.{Outside}
 use Rattle.farm_history.specs.Entries.{Entry}
 use Rattle.farm_history.specs.Lists.{Each}
@@ -86,15 +87,12 @@ module _ {T : Type 0} (made : Made T) where
       subst (λ (x : ℕ). AreStanding made x m k seats) (sym one)
       (subst (λ (x : ℕ). AreStanding made 0 x k seats) (sym two) (subst (λ (x : ℕ). AreStanding made 0 1 x seats) (sym last) s))
 
-  same_some : {X : Type 0} (x y : X) → Some x ≡ Some y → x ≡ y
-  same_some x y is = cc
-
   -- the threads have run
   pub ran : (l l' l'' : Leaving) (old new : RunSeats Sat) (told told' : EachFront (Outside PortsTold)) (done : EachFront FrontDone) (stopped : Bool) → IsSet made (length old.pool.items) old → length new.pool.items ≡ length old.pool.items →
       ((i : ℕ) (d : Actor Sat) → i < length old.pool.items → HasWorked made (slice_index_or old.pool.items i d) (slice_index_or new.pool.items i d)) → HaveServed made l l' l'' old.front_seats new.front_seats told told' done stopped →
       Ran made l l' l'' old.front_seats.own new.front_seats.own new.pool.items told told' done stopped
   ran l l' l'' old new told told' done stopped set long worked served =
-      let same : set.standing.seats ≡ served.began = same_some _ _ (sym set.standing.are ∙ served.are) in
+      let same : set.standing.seats ≡ served.began = same_Some _ _ (sym set.standing.are ∙ served.are) in
       let spent = all_spent 0 old.pool.items new.pool.items long set.numbered worked in
       record {
         start_is = subst (λ n. IsStart made n old.front_seats.own) (sym long) set.own;

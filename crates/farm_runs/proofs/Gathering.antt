@@ -1,6 +1,7 @@
 -- The first seat after all others were joined into it, and what it knows of each of them.
 use Rattle.std.proofs.Common.{◌≡◌, ℕ, zero, suc, ◌+◌, Bool, true, false, ◌||◌, List, [], ◌∷◌, ◌++◌, length, slice_get, Option, Some, None, refl, sym, ap, ◌∙◌, subst, arith, append_assoc, append-nil, length-append}
 use Rattle.std.specs.List.{list_any}
+use Rattle.std.proofs.lemmas.Bool.{or_right}
 use Rattle.farm_history.specs.Entries.{Entry}
 use Rattle.farm_history.specs.Lists.{Each}
 use Rattle.turn_cell.specs.Turns.{by, HasJoined}
@@ -62,12 +63,8 @@ module _ {T : Type 0} where
   pool_mark made v [] each any = cc
   pool_mark made v (a ∷ rest) each any = go (is_worker_worn a.end) refl (pool_mark made v rest each.1) any
     where
-      right : (b c : Bool) → c ≡ true → (b || c) ≡ true
-      right true c is = refl
-      right false c is = is
-
       go : (b : Bool) → is_worker_worn a.end ≡ b → (list_any is_worker_worn (ends_in rest) ≡ true → (first_seat_after v rest).worn ≡ true) → (b || list_any is_worker_worn (ends_in rest)) ≡ true → ((first_seat_after v rest).worn || a.seat.worn) ≡ true
-      go true is ih any = right (first_seat_after v rest).worn a.seat.worn (each.0.worn (ended_worn a.end is))
+      go true is ih any = or_right (first_seat_after v rest).worn a.seat.worn (each.0.worn (ended_worn a.end is))
       go false is ih any = ap (λ b. b || a.seat.worn) (ih any)
 
   -- what is noted of each worker is so of it

@@ -4,6 +4,7 @@ use Rattle.std.specs.List.{list_any}
 use Rattle.std.proofs.lemmas.Bool.Decides.{nat_tests}
 use Rattle.std.proofs.lemmas.List.{length-map}
 use Rattle.std.proofs.lemmas.Bool.{or_left, or_right}
+use Rattle.farm_core.proofs.Told.{none_past}
 use Rattle.farm_base.specs.Outside.{Outside}
 use Rattle.tile_store.specs.Stores.{StoreTold}
 use Rattle.farm_history.specs.declared.answers.Tally.{Tally as Totals}
@@ -44,12 +45,6 @@ use Rattle.farm_runs.proofs.Gathering.{each_joined, each_right, gathered_number,
 -- every entry that a front leaves is a front's
 abbrev pub IsFronts : ℕ → Leaving → Type 0
 IsFronts n leaves = (told told' : Outside PortsTold) (es : List Entry) (done : FrontDone) (worn : Bool) → leaves told told' es done worn → AreOfFront n es done.end
-
--- a place where nothing stands is past the list
-slice_get_long : {X : Type 0} (xs : List X) (n : ℕ) → slice_get xs n ≡ None → length xs ≤ n
-slice_get_long [] n is = omega arith
-slice_get_long (x ∷ xs) zero is = cc
-slice_get_long (x ∷ xs) (suc n) is = let ih = slice_get_long xs n is in omega arith
 
 module _ {D : Type 0} (state : D → Outside StoreTold) (made : Made (Turned D)) where
   abbrev Sat : Type 0
@@ -217,7 +212,7 @@ module _ {D : Type 0} (state : D → Outside StoreTold) (made : Made (Turned D))
     worker_at w fine lt = go (slice_get (ends_in pool) w) refl
       where
         go : (o : Option (Option WorkEnd)) → slice_get (ends_in pool) w ≡ o → Settled (plain (by (w + 4) h.seen))
-        go None is = absurd (let long = slice_get_long (ends_in pool) w is in omega arith)
+        go None is = absurd (let long = none_past (ends_in pool) w is in omega arith)
         go (Some end) is = worker_settled w end _ (fine_at w end (ends_in pool) is fine) (work_at w end (at_zero w end is))
 
     beyond : (n : ℕ) → 3 + length (ends_in pool) < n → Settled (plain (by n h.seen))
@@ -293,7 +288,7 @@ module _ {D : Type 0} (state : D → Outside StoreTold) (made : Made (Turned D))
         same = omega arith
 
         at : (o : Option (Option WorkEnd)) → w < length (ends_in pool) → slice_get (ends_in pool) w ≡ o → list_any is_stop (plain (by (w + 4) h.seen)) ≡ false
-        at None lt is = absurd (let long = slice_get_long (ends_in pool) w is in omega arith)
+        at None lt is = absurd (let long = none_past (ends_in pool) w is in omega arith)
         at (Some end) lt is = worker_unstopped w end _ (work_at w end (at_zero w end is))
 
         go : (b : Bool) → nat_lt w (length (ends_in pool)) ≡ b → list_any is_stop (plain (by (suc (suc (suc (suc w)))) h.seen)) ≡ false

@@ -3,6 +3,7 @@ use Rattle.std.proofs.Common.{◌≡◌, ℕ, Bool, true, false, ◌&&◌, ◌||
 use Rattle.std.specs.List.{list_any}
 use Rattle.std.proofs.lemmas.Bool.Decides.{nat_tests}
 use Rattle.std.proofs.lemmas.List.Sorted.{list_any-IsPermutation, IsPermutation-reverse}
+use Rattle.std.proofs.Math.Bool.{and-false}
 use Rattle.farm_history.specs.declared.keys.Key.{Key}
 use Rattle.farm_history.specs.declared.answers.ClaimAnswer.TheVariants.{Job}
 use Rattle.farm_history.specs.Entries.{Entry, Claim, Finish}
@@ -50,12 +51,8 @@ begins p told o g n worker t v k before legal seated =
     let is = (job_is_next p (plain g ++ o) t k v legal.0).ticket_is in
     let own : (t == t) ≡ true = grind (arith, nat_tests) in
     let none = no_end g t seated (claimer_new p told o g t legal.1 (omega arith)) in
-    let none_by : is_ended_by n t g ≡ false = each-none _ g (each-map _ _ g (λ x no. ap (λ b. (x.0 == n) && b) no ∙ off (x.0 == n)) (none-each _ g none)) in
-    (n, ap (λ b. cond b (Some n) (claimer g t)) own, ap (λ b. b || is_ended_by n t g) (off (n == n)) ∙ none_by)
-  where
-    off : (b : Bool) → (b && false) ≡ false
-    off true = refl
-    off false = refl
+    let none_by : is_ended_by n t g ≡ false = each-none _ g (each-map _ _ g (λ x no. ap (λ b. (x.0 == n) && b) no ∙ and-false (x.0 == n)) (none-each _ g none)) in
+    (n, ap (λ b. cond b (Some n) (claimer g t)) own, ap (λ b. b || is_ended_by n t g) (and-false (n == n)) ∙ none_by)
 
 pub under : (p : Plan) (told : Bool) (o : List Entry) → flights o ≡ [] → (g : List (ℕ × Entry)) → Legal p told (plain g ++ o) → Seated g → Each (IsUnder g) (flights (plain g ++ o))
 unfolding Fits flights jobs

@@ -1,10 +1,11 @@
 -- Who stopped the farm: where the Stops of each seat stand.
-use Rattle.std.proofs.Common.{◌≡◌, ◌≢◌, ◌⊎◌, inl, inr, ℕ, Bool, true, false, ◌||◌, cond, ◌==◌, List, [], ◌∷◌, ◌++◌, Option, Some, None, refl, sym, ap, ◌∙◌, subst, arith, append_assoc}
+use Rattle.std.proofs.Common.{◌≡◌, ◌≢◌, ◌⊎◌, inl, inr, ℕ, Bool, true, false, cond, ◌==◌, List, [], ◌∷◌, ◌++◌, Option, Some, None, refl, sym, ap, ◌∙◌, subst, arith, append_assoc}
 use Rattle.std.specs.List.{list_any}
 use Rattle.std.proofs.lemmas.Bool.Decides.{nat_tests}
 use Rattle.std.proofs.lemmas.List.{map-append}
 use Rattle.std.proofs.lemmas.List.Elements.{filter-append}
 use Rattle.std.proofs.lemmas.List.Folds.{list_any-append}
+use Rattle.std.proofs.Math.Bool.{or-true}
 use Rattle.farm_history.specs.declared.answers.Tally.{Tally as Totals}
 use Rattle.farm_history.specs.Entries.{Entry, Stop, Tally}
 use Rattle.farm_history.specs.Lists.{Each}
@@ -52,11 +53,7 @@ ends_front n m end h before after other is a =
 -- Seats that put no Stop.
 
 any_there : (xs ys : List Entry) → list_any is_stop (xs ++ Stop ∷ ys) ≡ true
-any_there xs ys = list_any-append is_stop xs (Stop ∷ ys) ∙ go (list_any is_stop xs)
-  where
-    go : (b : Bool) → (b || true) ≡ true
-    go true = refl
-    go false = refl
+any_there xs ys = list_any-append is_stop xs (Stop ∷ ys) ∙ or-true (list_any is_stop xs)
 
 pub never_stops : (n : ℕ) (h before after : List (ℕ × Entry)) → h ≡ before ++ (n, Stop) ∷ after → list_any is_stop (plain (by n h)) ≡ false → ⊥
 never_stops n h before after is none =

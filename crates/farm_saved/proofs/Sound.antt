@@ -1,62 +1,19 @@
 -- What is read is sound: entries that are judged one after another rise.
-use Rattle.std.proofs.Common.{◌≡◌, ℕ, ◌-◌, ◌^◌, ◌%◌, ◌<◌, ◌⊎◌, inl, inr, List, [], ◌∷◌, ◌++◌, length, Bool, true, false, ◌&&◌, ◌||◌, ltb, leb, eqb, Option, Some, refl, ap, ◌∙◌, subst, arith}
+use Rattle.std.proofs.Common.{◌≡◌, ℕ, ◌-◌, ◌^◌, ◌%◌, List, [], ◌∷◌, ◌++◌, length, Bool, true, false, ◌&&◌, ltb, leb, eqb, Option, Some, refl, ap, ◌∙◌, subst, arith}
 use Rattle.std.specs.Prelude.{slice_get}
 use Rattle.std.specs.List.{list_all}
 use Rattle.std.proofs.lemmas.Bool.{and_parts, and_from}
 use Rattle.std.proofs.lemmas.Bool.Decides.{nat_tests}
 use Rattle.std.proofs.lemmas.List.Elements.{All-push, All-nil}
+use Rattle.farm_history.proofs.Resumed.{key_before-then}
 use Rattle.plain_world.specs.declared.world.Meta.{Meta}
 use Rattle.plain_world.specs.World.{IsMeta}
 use Rattle.meta_container.specs.Reading.{is_meta}
-use Rattle.farm_history.specs.declared.keys.Key.{Key}
 use Rattle.farm_history.specs.declared.keys.Kept.{Kept}
 use Rattle.farm_history.specs.Replays.{key_before, are_rising}
 use Rattle.farm_saved.specs.Savings.{IsKept, IsClean}
 use Rattle.farm_saved.specs.Reading.{is_behind, is_kept}
 use Rattle.farm_saved.specs.inner.Fields.{last_of}
-
--- ---- the order of keys
-
--- by a first number, and by what follows where the first are the same
-abbrev less : ℕ → ℕ → Bool → Bool
-less x y more = ltb x y || (eqb x y && more)
-
-less_of : (x y : ℕ) (more below same : Bool) → ltb x y ≡ below → eqb x y ≡ same → (below || (same && more)) ≡ true → (x < y) ⊎ ((x ≡ y) × (more ≡ true))
-less_of x y more true same b s h = inl (grind (arith, nat_tests))
-less_of x y more false true b s h = inr (grind (arith, nat_tests), h)
-less_of x y more false false b s h = absurd (cc)
-
-less_cases : (x y : ℕ) (more : Bool) → less x y more ≡ true → (x < y) ⊎ ((x ≡ y) × (more ≡ true))
-less_cases x y more h = less_of x y more (ltb x y) (eqb x y) refl refl h
-
-below_less : (x y : ℕ) (more : Bool) → x < y → less x y more ≡ true
-below_less x y more h = let b : ltb x y ≡ true = grind (arith, nat_tests) in rw b refl
-
-same_less : (x y : ℕ) (more : Bool) → x ≡ y → more ≡ true → less x y more ≡ true
-same_less x y more e m =
-    let b : ltb x y ≡ false = grind (arith, nat_tests) in
-    let s : eqb x y ≡ true = grind (arith, nat_tests) in
-    rw (b, s, m) refl
-
-joined : (x y z : ℕ) (p q r : Bool) → (p ≡ true → q ≡ true → r ≡ true) → (x < y) ⊎ ((x ≡ y) × (p ≡ true)) → (y < z) ⊎ ((y ≡ z) × (q ≡ true)) → less x z r ≡ true
-joined x y z p q r on (inl a) (inl b) = below_less x z r (omega arith)
-joined x y z p q r on (inl a) (inr b) = let e : y ≡ z = b.0 in below_less x z r (omega arith)
-joined x y z p q r on (inr a) (inl b) = let e : x ≡ y = a.0 in below_less x z r (omega arith)
-joined x y z p q r on (inr a) (inr b) = same_less x z r (a.0 ∙ b.0) (on a.1 b.1)
-
-less_joined : (x y z : ℕ) (p q r : Bool) → (p ≡ true → q ≡ true → r ≡ true) → less x y p ≡ true → less y z q ≡ true → less x z r ≡ true
-less_joined x y z p q r on h g = joined x y z p q r on (less_cases x y p h) (less_cases y z q g)
-
-last_joined : (x y z : ℕ) → ltb x y ≡ true → ltb y z ≡ true → ltb x z ≡ true
-last_joined x y z h g = grind (arith, nat_tests)
-
--- the key before another that is before a third is before the third
-before_joined : (a b c : Key) → key_before a b ≡ true → key_before b c ≡ true → key_before a c ≡ true
-before_joined a b c =
-    less_joined a.map b.map c.map _ _ _
-    (less_joined a.meta.z b.meta.z c.meta.z _ _ _
-    (less_joined a.meta.x b.meta.x c.meta.x _ _ _
-    (last_joined a.meta.y b.meta.y c.meta.y)))
 
 -- ---- entries that rise
 
@@ -85,7 +42,7 @@ rising_after x [] k h g = and_from (list_all (λ y. key_before x.key y.key) (k �
 rising_after x (y ∷ ys) k h g =
     let both = and_parts (list_all (λ z. key_before x.key z.key) (y ∷ ys)) (are_rising (y ∷ ys)) h in
     let to_last : key_before x.key (last y ys).key ≡ true = last_passes (λ z. key_before x.key z.key) y ys both.0 in
-    let to_new : key_before x.key k.key ≡ true = before_joined x.key (last y ys).key k.key to_last g in
+    let to_new : key_before x.key k.key ≡ true = key_before-then x.key (last y ys).key k.key to_last g in
     and_from (list_all (λ z. key_before x.key z.key) ((y ∷ ys) ++ k ∷ [])) (are_rising ((y ∷ ys) ++ k ∷ []))
     (all_push (λ z. key_before x.key z.key) (y ∷ ys) k both.0 to_new) (rising_after y ys k both.1 g)
 

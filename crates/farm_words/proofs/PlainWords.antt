@@ -1,6 +1,6 @@
 -- Where no word is empty or begins with `-`, clap's values are the words.
-use Rattle.std.proofs.Common.{◌≡◌, ℕ, suc, List, [], ◌∷◌, ◌++◌, length, false, arith, ne_eqb, Option, Some, None, Result, Ok, Err, fold, refl, sym, ap, ◌∙◌, append_assoc}
-use Rattle.std.specs.Prelude.{codes, is_some, unwrap_or, IfOk, ◌==◌, if◌then◌else◌}
+use Rattle.std.proofs.Common.{◌≡◌, ℕ, suc, List, [], ◌∷◌, ◌++◌, length, false, arith, ne_eqb, Option, Some, None, fold, refl, sym, ap, ◌∙◌, append_assoc}
+use Rattle.std.specs.Prelude.{codes, is_some, unwrap_or, ◌==◌, if◌then◌else◌}
 use Rattle.clap.specs.Kinds.{Kinds, or_else}
 use Rattle.clap.specs.Walk.{Text, Row, Rule, Walk, positional, walked, walk_from, nothing_held, settled, with_default}
 use Rattle.clap.specs.Simple.{Shape, built, entered}
@@ -155,8 +155,3 @@ values_known ws rows vs none found given =
 pub values_refused : (ws : List Text) → (fault_of farm_app ws ≡ [] → ⊥) → values_of ws ≡ None
 unfolding values_of
 values_refused ws h = unless_fault-None (fault_of farm_app ws) (unwrap_or (all_of (codes "words") (matches_of farm_app ws)) []) h
-
--- a fact of the value in an Ok from another
-pub if_ok : {T E : Type 0} (r : Result T E) (P Q : T → Type 0) → ((v : T) → P v → Q v) → IfOk r P → IfOk r Q
-if_ok (Ok v) P Q f h = f v h
-if_ok (Err e) P Q f h = h

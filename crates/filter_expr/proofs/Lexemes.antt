@@ -3,7 +3,7 @@ use Rattle.std.proofs.Common.{◌≡◌, ◌≢◌, ℕ, zero, suc, ◌+◌, ◌
 use Rattle.std.specs.Prelude.{codes}
 use Rattle.std.specs.List.{prefix_len}
 use Rattle.std.specs.Str.{bytes_eq}
-use Rattle.std.proofs.lemmas.Bool.{eqb-true, eq-eqb, ltb-true, ltb-false}
+use Rattle.std.proofs.lemmas.Bool.{eqb-true, eq-eqb, ltb-true, ltb-false, cases_Bool}
 use Rattle.std.proofs.lemmas.List.{take_more}
 use Rattle.std.proofs.lemmas.List.Sums.{prefix_len_stops, prefix_len-le-length}
 use Rattle.std.proofs.lemmas.Slice.Eq.{bytes_eq-Decides}
@@ -15,7 +15,7 @@ use Rattle.farm_base.specs.Digits.{is_digit}
 use Rattle.filter_expr.specs.Spelling.{is_letter, is_word_byte, is_quote, is_escaped, is_attribute_byte, IsDigits, digits_number, IsQuoting, SpellsToken, begins_with, lengthens, EndsBefore, StandsFirst}
 use Rattle.filter_expr.specs.Lexing.{Taken, nothing, number_token, number_token_at, word_token, word_at, name_token_at, longer, quoting_len, quoted_text, quoted_of, quoted_at, single, less_at, sign_at, first_byte, token_at}
 use Rattle.filter_expr.proofs.Chains.{wrong}
-use Rattle.filter_expr.proofs.Spelled.{split_bool, if_either, quotes, end_digits, end_words, run_all, run_stops, run_first}
+use Rattle.filter_expr.proofs.Spelled.{if_either, quotes, end_digits, end_words, run_all, run_stops, run_first}
 
 -- where the token is one, it stands first; it takes a byte at least and no more than there are
 pub record Good (l : List ℕ) (r : Taken) : Type 0 where
@@ -96,7 +96,7 @@ take_two : (b : ℕ) (bs : List ℕ) (n : ℕ) → n < length bs → take (n + 2
 take_two b bs n h = let e : n + 2 ≡ suc (n + 1) = omega arith in ap (λ m. take m (b ∷ bs)) e ∙ ap (λ l. b ∷ l) (take_more bs n 0 h)
 
 name_end : (n : ℕ) → is_attribute_byte n ≡ false → n ≡ 93
-name_end n h = by (split_bool (n == 93))
+name_end n h = by (cases_Bool (n == 93))
   where
     by : ((n == 93) ≡ true) ⊎ ((n == 93) ≡ false) → n ≡ 93
     by (inl e) = eqb-true n 93 e

@@ -3,7 +3,7 @@ use Rattle.std.proofs.Common.{◌≡◌, ◌≢◌, ℕ, ◌+◌, ◌^◌, ◌==
 use Rattle.std.specs.Prelude.{codes}
 use Rattle.std.specs.List.{prefix_len, list_all, list_any}
 use Rattle.std.specs.Str.{bytes_eq}
-use Rattle.std.proofs.lemmas.Bool.{eqb-true, lt-ltb, le-ltb, eq-eqb}
+use Rattle.std.proofs.lemmas.Bool.{eqb-true, lt-ltb, le-ltb, eq-eqb, cases_Bool, and_parts, and_from}
 use Rattle.std.proofs.lemmas.List.{length-append}
 use Rattle.plain_filters.specs.declared.CompareSign.TheVariants as «compare»
 use Rattle.filter_expr.specs.declared.tokens.Token.{Token}
@@ -12,10 +12,6 @@ use Rattle.farm_base.specs.Digits.{is_digit}
 use Rattle.filter_expr.specs.Spelling.{is_letter, is_word_byte, is_quote, is_escaped, is_attribute_byte, IsDigits, digits_number, IsQuoting, SpellsToken, signs, begins_with, EndsBefore}
 use Rattle.filter_expr.specs.Lexing.{Taken, nothing, number_token, number_token_at, word_token, word_at, name_token_at, longer, quoting_len, quoted_text, quoted_of, quoted_at, single, less_at, sign_at, first_byte, token_at}
 use Rattle.filter_expr.proofs.Chains.{wrong}
-
-pub split_bool : (b : Bool) → (b ≡ true) ⊎ (b ≡ false)
-split_bool true = inl refl
-split_bool false = inr refl
 
 pub if_either : {A : Type 0} (P : A → Type 0) (b : Bool) (x y : A) → (b ≡ true → P x) → (b ≡ false → P y) → P (if b then x else y)
 if_either P true x y h g = h refl
@@ -28,19 +24,12 @@ abbrev pub StopsRun : (ℕ → Bool) → List ℕ → Type 0
 StopsRun p [] = Unit {0}
 StopsRun p (b ∷ bs) = p b ≡ false
 
-pub both_true : (a b : Bool) → (a && b) ≡ true → (a ≡ true) × (b ≡ true)
-both_true true b e = (refl, e)
-both_true false b e = absurd (wrong e)
-
-both_are : (a b : Bool) → a ≡ true → b ≡ true → (a && b) ≡ true
-both_are a b e g = ap (λ x. x && b) e ∙ g
-
 run_exact : (p : ℕ → Bool) (w more : List ℕ) → list_all p w ≡ true → StopsRun p more → prefix_len p (w ++ more) ≡ length w
 run_exact p [] [] h s = refl
 run_exact p [] (b ∷ bs) h s = ap (λ t. if t then 1 + prefix_len p bs else 0) s
 run_exact p (b ∷ w) more h s =
-    ap (λ t. if t then 1 + prefix_len p (w ++ more) else 0) (both_true (p b) (list_all p w) h).0
-    ∙ ap (λ n. 1 + n) (run_exact p w more (both_true (p b) (list_all p w) h).1 s) ∙ one-add (length w)
+    ap (λ t. if t then 1 + prefix_len p (w ++ more) else 0) (and_parts (p b) (list_all p w) h).0
+    ∙ ap (λ n. 1 + n) (run_exact p w more (and_parts (p b) (list_all p w) h).1 s) ∙ one-add (length w)
 
 take_front : (w more : List ℕ) → take (length w) (w ++ more) ≡ w
 take_front [] more = refl
@@ -51,7 +40,7 @@ run_all p [] = refl
 run_all p (b ∷ bs) = by (p b) refl (run_all p bs)
   where
     by : (t : Bool) → p b ≡ t → list_all p (take (prefix_len p bs) bs) ≡ true → list_all p (take (if t then 1 + prefix_len p bs else 0) (b ∷ bs)) ≡ true
-    by true e ih = rw (one-add (prefix_len p bs)) (both_are (p b) (list_all p (take (prefix_len p bs) bs)) e ih)
+    by true e ih = rw (one-add (prefix_len p bs)) (and_from (p b) (list_all p (take (prefix_len p bs) bs)) e ih)
     by false e ih = refl
 
 pub run_stops : (p : ℕ → Bool) (l : List ℕ) → StopsRun p (drop (prefix_len p l) l)
@@ -113,7 +102,7 @@ digit_at b bs e = ap (λ (t : Bool). if t then number_token_at (b ∷ bs) else (
 
 digits_first : (us : List ℕ) → us ≢ [] → list_all is_digit us ≡ true → begins_with is_digit us ≡ true
 digits_first [] n h = absurd (n refl)
-digits_first (b ∷ us) n h = (both_true (is_digit b) (list_all is_digit us) h).0
+digits_first (b ∷ us) n h = (and_parts (is_digit b) (list_all is_digit us) h).0
 
 digits_found : (us more : List ℕ) (t : Token) → IsDigits us → EndsBefore us more → number_token us ≡ t → Found t us more
 unfolding number_token_at
@@ -157,7 +146,7 @@ name_found n more some all =
 
 -- a quote is one of the two
 pub quotes : (P : ℕ → Type 0) → P 39 → P 34 → (q : ℕ) → is_quote q ≡ true → P q
-quotes P a b q h = by (split_bool (q == 39))
+quotes P a b q h = by (cases_Bool (q == 39))
   where
     by : ((q == 39) ≡ true) ⊎ ((q == 39) ≡ false) → P q
     by (inl e) = subst P (sym (eqb-true q 39 e)) a
@@ -170,10 +159,7 @@ record Quoted (q : ℕ) (t vs more : List ℕ) : Type 0 where
 
 quoted_empty : (q : ℕ) (more : List ℕ) → quoting_len q false (q ∷ more) ≡ Some 0
 unfolding quoting_len
-quoted_empty q more = ap (λ b. if b then Some 0 else (if q == 92 then longer (quoting_len q true more) else longer (quoting_len q false more))) (same q)
-  where
-    same : (n : ℕ) → (n == n) ≡ true
-    same n = eq-eqb n n refl
+quoted_empty q more = ap (λ b. if b then Some 0 else (if q == 92 then longer (quoting_len q true more) else longer (quoting_len q false more))) (eq-eqb q q refl)
 
 quoted_plain : (q c : ℕ) (cs vs more : List ℕ) → c ≢ q → c ≢ 92 → Quoted q cs vs more → Quoted q (c ∷ cs) (c ∷ vs) more
 unfolding quoting_len quoted_text

@@ -1,7 +1,7 @@
 -- The lexer's list is the one list of tokens that a text is.
 use Rattle.std.proofs.Common.{◌≡◌, ◌≢◌, ℕ, zero, suc, ◌+◌, ◌-◌, ◌≤◌, ◌==◌, Bool, true, false, ◌||◌, ◌&&◌, nat_le, if◌then◌else◌, List, [], ◌∷◌, ◌++◌, drop, take, length, ◌⊎◌, inl, inr, refl, sym, ap, ◌∙◌, subst, arith, add-zero}
 use Rattle.std.specs.List.{list_all}
-use Rattle.std.proofs.lemmas.Bool.{leb-true}
+use Rattle.std.proofs.lemmas.Bool.{leb-true, cases_Bool, and_parts}
 use Rattle.plain_filters.specs.declared.CompareSign.TheVariants as «compare»
 use Rattle.std.proofs.lemmas.List.{take-append-drop, length-take, length-drop}
 use Rattle.filter_expr.specs.declared.tokens.Token.{Token}
@@ -12,7 +12,7 @@ use Rattle.farm_base.specs.Digits.{is_digit}
 use Rattle.filter_expr.specs.Spelling.{is_blank, IsDigits, begins_with, SpellsToken, StandsFirst, AreTokens, TokensOf}
 use Rattle.filter_expr.specs.Lexing.{Taken, token_at, tokens_from}
 use Rattle.filter_expr.proofs.Chains.{wrong}
-use Rattle.filter_expr.proofs.Spelled.{split_bool, quotes, token_complete, both_true, not_equal}
+use Rattle.filter_expr.proofs.Spelled.{quotes, token_complete, not_equal}
 use Rattle.filter_expr.proofs.Lexemes.{token_good}
 use Rattle.filter_expr.proofs.Lexes.{lexed_skips, from_token, placed_then, unknown_is}
 use Rattle.filter_expr.specs.Filters.{tokens}
@@ -83,7 +83,7 @@ end_lexed at = refl
 tokens_of : (m at : ℕ) (bs : List ℕ) → length bs ≤ m → AreTokens at bs (tokens_from at 0 bs)
 tokens_of m at [] h = subst (AreTokens at []) (sym (end_lexed at)) (at_once at [] [] [] token.End [] refl (inr (refl, refl, inl (refl, refl))))
 tokens_of zero at (b ∷ bs) h = absurd (omega (arith, h))
-tokens_of (suc m) at (b ∷ bs) h = by (split_bool (is_blank b)) (λ k l g. tokens_of m k l g)
+tokens_of (suc m) at (b ∷ bs) h = by (cases_Bool (is_blank b)) (λ k l g. tokens_of m k l g)
   where
     known : ((k : ℕ) (l : List ℕ) → length l ≤ m → AreTokens k l (tokens_from k 0 l)) → is_unknown (token_at (b ∷ bs)).0 ≡ false →
         AreTokens at (b ∷ bs) (placed_then (token_at (b ∷ bs)).0 at (tokens_from (at + (token_at (b ∷ bs)).1) 0 (drop (token_at (b ∷ bs)).1 (b ∷ bs))))
@@ -106,7 +106,7 @@ tokens_of (suc m) at (b ∷ bs) h = by (split_bool (is_blank b)) (λ k l g. toke
 
     by : (is_blank b ≡ true) ⊎ (is_blank b ≡ false) → ((k : ℕ) (l : List ℕ) → length l ≤ m → AreTokens k l (tokens_from k 0 l)) → AreTokens at (b ∷ bs) (tokens_from at 0 (b ∷ bs))
     by (inl e) ih = subst (AreTokens at (b ∷ bs)) (sym (lexed_gap at b bs e)) (add_blank at b bs (tokens_from (suc at) 0 bs) e (ih (suc at) bs (omega (arith, h))))
-    by (inr e) ih = solid ih e (split_bool (is_unknown (token_at (b ∷ bs)).0))
+    by (inr e) ih = solid ih e (cases_Bool (is_unknown (token_at (b ∷ bs)).0))
 
 pub lexed_tokens : (text : List ℕ) → TokensOf text (tokens_from 0 0 text)
 lexed_tokens text = tokens_of (length text) 0 text (omega arith)
@@ -118,7 +118,7 @@ none_of_four a b c d ea eb ec ed = ap (λ x. x || b || c || d) ea ∙ ap (λ x. 
 
 digit_solid : (b : ℕ) → is_digit b ≡ true → is_blank b ≡ false
 digit_solid b h =
-    let low : 48 ≤ b = leb-true 48 b (both_true (nat_le 48 b) (nat_le b 57) h).0 in
+    let low : 48 ≤ b = leb-true 48 b (and_parts (nat_le 48 b) (nat_le b 57) h).0 in
     none_of_four (b == 32) (b == 9) (b == 10) (b == 13)
     (not_equal b 32 (λ e. absurd (omega (arith, e, low)))) (not_equal b 9 (λ e. absurd (omega (arith, e, low))))
     (not_equal b 10 (λ e. absurd (omega (arith, e, low)))) (not_equal b 13 (λ e. absurd (omega (arith, e, low))))
@@ -129,7 +129,7 @@ Solid us = (us ≢ []) × (begins_with is_blank us ≡ false)
 
 digits_solid : (us : List ℕ) → IsDigits us → Solid us
 digits_solid [] d = absurd (d.0 refl)
-digits_solid (b ∷ us) d = (d.0, digit_solid b (both_true (is_digit b) (list_all is_digit us) d.1).0)
+digits_solid (b ∷ us) d = (d.0, digit_solid b (and_parts (is_digit b) (list_all is_digit us) d.1).0)
 
 solid_is : (b : ℕ) (w us : List ℕ) → us ≡ b ∷ w → is_blank b ≡ false → Solid us
 solid_is b w us e h = subst Solid (sym e) (some_bytes b w, h)
@@ -169,7 +169,7 @@ first_solid token.Unknown us s = absurd s
 gap_passed : (at : ℕ) (gap bs : List ℕ) → list_all is_blank gap ≡ true → tokens_from at 0 (gap ++ bs) ≡ tokens_from (at + length gap) 0 bs
 gap_passed at [] bs h = ap (λ k. tokens_from k 0 bs) (sym (add-zero at))
 gap_passed at (b ∷ gap) bs h =
-    lexed_gap at b (gap ++ bs) (both_true (is_blank b) (list_all is_blank gap) h).0 ∙ gap_passed (suc at) gap bs (both_true (is_blank b) (list_all is_blank gap) h).1
+    lexed_gap at b (gap ++ bs) (and_parts (is_blank b) (list_all is_blank gap) h).0 ∙ gap_passed (suc at) gap bs (and_parts (is_blank b) (list_all is_blank gap) h).1
     ∙ ap (λ k. tokens_from k 0 bs) (omega arith)
 
 drop_front : (us more : List ℕ) → drop (length us) (us ++ more) ≡ more
@@ -193,7 +193,7 @@ first_lexed at t (b ∷ us) more s =
 unknown_lexed : (at : ℕ) (more : List ℕ) → more ≢ [] → begins_with is_blank more ≡ false → ((t : Token) → (vs : List ℕ) → (ws : List ℕ) → more ≡ vs ++ ws → StandsFirst t vs ws → ⊥) →
     tokens_from at 0 more ≡ placed_then token.Unknown at []
 unknown_lexed at [] n e h = absurd (n refl)
-unknown_lexed at (b ∷ bs) n e h = lexed_solid at b bs e ∙ from_unknown at b bs (by (split_bool (is_unknown (token_at (b ∷ bs)).0)))
+unknown_lexed at (b ∷ bs) n e h = lexed_solid at b bs e ∙ from_unknown at b bs (by (cases_Bool (is_unknown (token_at (b ∷ bs)).0)))
   where
     by : (is_unknown (token_at (b ∷ bs)).0 ≡ true) ⊎ (is_unknown (token_at (b ∷ bs)).0 ≡ false) → is_unknown (token_at (b ∷ bs)).0 ≡ true
     by (inl u) = u

@@ -1,10 +1,11 @@
 -- A filter that was written is read as that filter again.
-use Rattle.std.proofs.Common.{◌≡◌, ◌≢◌, ℕ, suc, ◌+◌, ◌-◌, ◌*◌, ◌/◌, ◌%◌, ◌^◌, ◌≤◌, ◌<◌, ◌==◌, Bool, true, false, ◌||◌, ◌&&◌, nat_lt, nat_le, if◌then◌else◌, IsTrue, pos, List, [], ◌∷◌, ◌++◌, length, ◌⊎◌, inl, inr, refl, sym, ap, ◌∙◌, subst, arith, append_assoc, add-zero, zero-add}
+use Rattle.std.proofs.Common.{◌≡◌, ◌≢◌, ℕ, suc, ◌+◌, ◌-◌, ◌*◌, ◌/◌, ◌%◌, ◌^◌, ◌≤◌, ◌<◌, ◌==◌, Bool, true, false, ◌||◌, ◌&&◌, nat_lt, if◌then◌else◌, IsTrue, pos, List, [], ◌∷◌, ◌++◌, length, ◌⊎◌, inl, inr, refl, sym, ap, ◌∙◌, subst, arith, append_assoc, add-zero, zero-add}
 use Rattle.std.specs.List.{list_all}
 use Rattle.std.specs.Fmt.{signed_decimal, decimal}
-use Rattle.std.proofs.lemmas.Bool.{ltb-false, le-ltb, eq-eqb, le-leb}
+use Rattle.std.proofs.lemmas.Bool.{ltb-false, le-ltb, eq-eqb, cases_Bool, and_parts}
 use Rattle.std.proofs.lemmas.List.{append-nil, length-append}
 use Rattle.std.proofs.lemmas.Fmt.{decimal_by_steps}
+use Rattle.std.proofs.lemmas.Bool.Decides.{nat_tests}
 use Rattle.plain_filters.specs.declared.CompareSign.{CompareSign}
 use Rattle.plain_filters.specs.declared.CompareSign.TheVariants as «compare»
 use Rattle.plain_filters.specs.declared.SumSign.{SumSign}
@@ -23,7 +24,7 @@ use Rattle.filter_expr.specs.Filters.{tokens, FilterOf}
 use Rattle.filter_texts.specs.Written.{escaped_text, spelling, strength, in_place, tokens_in, later_tokens, sum_tokens, product_tokens, put_tokens, filter_text, ReadsAgain, AnswersAgain, IsKnownByText}
 use Rattle.filter_expr.proofs.Forms.{head_same, tail_same, looser}
 use Rattle.filter_expr.proofs.Chains.{wrong}
-use Rattle.filter_expr.proofs.Spelled.{split_bool, end_digits, both_true}
+use Rattle.filter_expr.proofs.Spelled.{end_digits}
 use Rattle.filter_expr.proofs.Lexemes.{bracket_ends, quote_ends}
 use Rattle.filter_expr.proofs.Tokenised.{first_solid, Rest}
 use Rattle.filter_expr.proofs.Final.{tokens_both}
@@ -102,11 +103,11 @@ quoting [] = refl
 quoting (b ∷ bs) = (escaped_text bs, quoting bs, by (b == 39 || b == 92) refl)
   where
     either_escaped : (b == 39 || b == 92) ≡ true → IsTrue (b == 92 || (b == 39 || b == 34))
-    either_escaped e = one (split_bool (b == 92))
+    either_escaped e = one (cases_Bool (b == 92))
       where
         one : ((b == 92) ≡ true) ⊎ ((b == 92) ≡ false) → (b == 92 || (b == 39 || b == 34)) ≡ true
         one (inl q) = ap (λ x. x || (b == 39 || b == 34)) q
-        one (inr q) = two (split_bool (b == 39))
+        one (inr q) = two (cases_Bool (b == 39))
           where
             two : ((b == 39) ≡ true) ⊎ ((b == 39) ≡ false) → (b == 92 || (b == 39 || b == 34)) ≡ true
             two (inl r) = ap (λ x. x || (b == 39 || b == 34)) q ∙ ap (λ x. x || b == 34) r
@@ -116,7 +117,7 @@ quoting (b ∷ bs) = (escaped_text bs, quoting bs, by (b == 39 || b == 92) refl)
     apart n e s = wrong (sym e ∙ eq-eqb b n s)
 
     first : (b == 39 || b == 92) ≡ false → (b == 39) ≡ false
-    first e = one (split_bool (b == 39))
+    first e = one (cases_Bool (b == 39))
       where
         one : ((b == 39) ≡ true) ⊎ ((b == 39) ≡ false) → (b == 39) ≡ false
         one (inl q) = absurd (wrong (sym e ∙ ap (λ x. x || b == 92) q))
@@ -137,26 +138,23 @@ record Digits (n : ℕ) (ds : List ℕ) : Type 0 where
 list_all_both : (p : ℕ → Bool) (xs ys : List ℕ) → list_all p xs ≡ true → list_all p ys ≡ true → list_all p (xs ++ ys) ≡ true
 list_all_both p [] ys h g = g
 list_all_both p (x ∷ xs) ys h g =
-    let b = both_true (p x) (list_all p xs) h in
+    let b = and_parts (p x) (list_all p xs) h in
     ap (λ t. t && list_all p (xs ++ ys)) b.0 ∙ list_all_both p xs ys b.1 g
 
 number_push : (n : ℕ) (ds : List ℕ) (d : ℕ) → number_after n (ds ++ d ∷ []) ≡ 10 * number_after n ds + (d - 48)
 number_push n [] d = refl
 number_push n (c ∷ ds) d = number_push (10 * n + (c - 48)) ds d
 
-digit_of : (d : ℕ) → d < 10 → is_digit (48 + d) ≡ true
-digit_of d h = ap (λ t. t && nat_le (48 + d) 57) (le-leb 48 (48 + d) (omega arith)) ∙ le-leb (48 + d) 57 (omega (arith, h))
-
 decimal_digits : (n : ℕ) → n < 2 ^ 64 → Digits n (decimal n)
 decimal_digits n h = decimal_by_steps Digits one more n h
   where
     one : (n : ℕ) → n < 10 → Digits n ((48 + n) ∷ [])
-    one n h = record { some = omega arith; digits = ap (λ t. t && true) (digit_of n h); value = omega arith }
+    one n h = record { some = omega arith; digits = grind (arith, nat_tests); value = omega arith }
 
     more : (n : ℕ) (ds : List ℕ) → 10 ≤ n → Digits (n / 10) ds → Digits n (ds ++ ((48 + n % 10) ∷ []))
     more n ds h d = record {
       some = omega (arith, d.some, length-append ds ((48 + n % 10) ∷ []));
-      digits = list_all_both is_digit ds ((48 + n % 10) ∷ []) d.digits (ap (λ t. t && true) (digit_of (n % 10) (omega arith)));
+      digits = list_all_both is_digit ds ((48 + n % 10) ∷ []) d.digits (grind (arith, nat_tests));
       value = number_push 0 ds (48 + n % 10) ∙ ap (λ m. 10 * m + ((48 + n % 10) - 48)) d.value ∙ omega arith;
     }
 
@@ -274,7 +272,7 @@ end_at at = record { token = token.End; offset = at }
 
 digits_begin : (us : List ℕ) → IsDigits us → begins_with is_digit us ≡ true
 digits_begin [] d = absurd (d.0 refl)
-digits_begin (b ∷ us) d = (both_true (is_digit b) (list_all is_digit us) d.1).0
+digits_begin (b ∷ us) d = (and_parts (is_digit b) (list_all is_digit us) d.1).0
 
 -- a space ends each spelling
 ends_at_space : (t : Token) → Said t → (more : List ℕ) → EndsBefore (spelling t) (32 ∷ more)

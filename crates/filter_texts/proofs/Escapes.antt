@@ -1,9 +1,8 @@
 -- A text's escapes, character by character.
 use Rattle.std.proofs.Common.{◌≡◌, ℕ, suc, ◌<◌, ◌≤◌, Bool, true, false, ◌==◌, ◌||◌, nat_lt, if◌then◌else◌, List, [], ◌∷◌, ◌++◌, length, get_or, ◌⊎◌, inl, inr, refl, sym, ap, ◌∙◌, arith, append_assoc, encode_utf8}
-use Rattle.std.proofs.lemmas.Bool.{eqb-true, ltb-true, ltb-false}
+use Rattle.std.proofs.lemmas.Bool.{eqb-true, ltb-true, ltb-false, cases_Bool}
 use Rattle.std.proofs.lemmas.List.{append-nil}
 use Rattle.std.proofs.lemmas.Str.{inside_one}
-use Rattle.filter_expr.proofs.Spelled.{split_bool}
 use Rattle.filter_texts.specs.Written.{escaped_text}
 use Rattle.filter_texts.specs.inner.Pieces.{is_escaped, escaped_char}
 
@@ -15,7 +14,7 @@ unescaped_run (b ∷ us) rest h =
     ∙ ap (λ l. b ∷ l) (unescaped_run us rest (λ k l. h (suc k) (omega (arith, l))))
 
 high_not : (x n : ℕ) → n < 128 → 128 ≤ x → (x == n) ≡ false
-high_not x n m h = by (split_bool (x == n))
+high_not x n m h = by (cases_Bool (x == n))
   where
     by : ((x == n) ≡ true) ⊎ ((x == n) ≡ false) → (x == n) ≡ false
     by (inl q) = absurd (omega (arith, eqb-true x n q, m, h))
@@ -28,7 +27,7 @@ char_plain : (c : ℕ) (rest : List ℕ) → is_escaped c ≡ false → escaped_
 char_plain c rest e = unescaped_run (encode_utf8 c) rest at
   where
     at : (k : ℕ) → k < length (encode_utf8 c) → is_escaped (get_or (encode_utf8 c) k 0) ≡ false
-    at k l = by (split_bool (nat_lt (get_or (encode_utf8 c) k 0) 128))
+    at k l = by (cases_Bool (nat_lt (get_or (encode_utf8 c) k 0) 128))
       where
         by : (nat_lt (get_or (encode_utf8 c) k 0) 128 ≡ true) ⊎ (nat_lt (get_or (encode_utf8 c) k 0) 128 ≡ false) → is_escaped (get_or (encode_utf8 c) k 0) ≡ false
         by (inl q) = ap is_escaped (sym (inside_one c [] (encode_utf8 c) k (sym (append-nil (encode_utf8 c))) l (ltb-true (get_or (encode_utf8 c) k 0) 128 q))) ∙ e
@@ -36,7 +35,7 @@ char_plain c rest e = unescaped_run (encode_utf8 c) rest at
 
 char_escaped : (c : ℕ) (rest : List ℕ) → is_escaped c ≡ true → escaped_text (encode_utf8 c ++ rest) ≡ 92 ∷ (encode_utf8 c ++ escaped_text rest)
 unfolding lib.Utf8.encode
-char_escaped c rest e = by (split_bool (c == 39))
+char_escaped c rest e = by (cases_Bool (c == 39))
   where
     one : (n : ℕ) → c ≡ n → escaped_text (encode_utf8 n ++ rest) ≡ 92 ∷ (encode_utf8 n ++ escaped_text rest) → escaped_text (encode_utf8 c ++ rest) ≡ 92 ∷ (encode_utf8 c ++ escaped_text rest)
     one n q h = ap (λ x. escaped_text (encode_utf8 x ++ rest)) q ∙ h ∙ ap (λ x. 92 ∷ (encode_utf8 x ++ escaped_text rest)) (sym q)

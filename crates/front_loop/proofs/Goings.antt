@@ -2,6 +2,7 @@
 use Rattle.std.proofs.Common.{◌≡◌, ℕ, Bool, true, false, cond, List, [], ◌∷◌, ◌++◌, map, Option, Some, None, option_map, IfSome, refl, sym, ap, subst, ◌∙◌, inl, inr, ◌⊎◌}
 use Rattle.std.specs.Prelude.{◌≢◌}
 use Rattle.std.proofs.lemmas.List.{append-nil}
+use Rattle.std.proofs.lemmas.Option.{same_Some}
 use Rattle.farm_history.specs.Lists.{Each}
 use Rattle.farm_history.specs.Entries.{Entry, Stop}
 use Rattle.port_events.specs.declared.events.PortEvent.{PortEvent}
@@ -108,13 +109,10 @@ module _ {A W T : Type 0} (R : Rules A W) (K : List ℕ → List (Move A) → T 
       let n = not_first p.0 c cs h in
       (sym (ap (λ b. cond b (Some p.1) (rest_at ps c)) (other p.0 c (λ q. n.0 (sym q)))) ∙ r.0, rests_tail p ps rs cs n.1 r.1)
 
-  some_is : (x y : List ℕ) → Some x ≡ Some y → x ≡ y
-  some_is x y h = cc
-
   rests_are : (box : List (ℕ × List ℕ)) (rs : List (FrontRound A)) → Apart (keys box) → RestsAt box rs (keys box) → box ≡ map (λ c. (c, untaken R (conn rs c))) (keys box)
   rests_are [] rs a r = refl
   rests_are (p ∷ ps) rs a r =
-      let e : p.1 ≡ untaken R (conn rs p.0) = some_is p.1 (untaken R (conn rs p.0)) (sym (ap (λ b. cond b (Some p.1) (rest_at ps p.0)) (same p.0)) ∙ r.0) in
+      let e : p.1 ≡ untaken R (conn rs p.0) = same_Some p.1 (untaken R (conn rs p.0)) (sym (ap (λ b. cond b (Some p.1) (rest_at ps p.0)) (same p.0)) ∙ r.0) in
       ap (λ d. (p.0, d) ∷ ps) e ∙ ap (λ qs. (p.0, untaken R (conn rs p.0)) ∷ qs) (rests_are ps rs a.1 (rests_tail p ps rs (keys ps) a.0 r.1))
 
   handed_rests : (rs : List (FrontRound A)) (cs : List ℕ) → map (as_rest R.number) (map (λ c. (c, untaken R (conn rs c))) cs)

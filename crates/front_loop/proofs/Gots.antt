@@ -2,7 +2,7 @@
 use Rattle.std.proofs.Common.{◌≡◌, ◌==◌, ◌<◌, ◌≤◌, ◌+◌, ℕ, Bool, true, false, ◌||◌, cond, List, [], ◌∷◌, ◌++◌, length, map, set, drop, Option, Some, None, refl, sym, ap, subst, ◌∙◌, arith, nat_lt, append_assoc, length-append, inl, inr, ◌⊎◌}
 use Rattle.std.specs.List.{list_any}
 use Rattle.std.proofs.Math.Bool.{or-false}
-use Rattle.std.proofs.lemmas.Bool.{lt-ltb, le-ltb, ltb-true, or_parts, eqb-true}
+use Rattle.std.proofs.lemmas.Bool.{lt-ltb, le-ltb, ltb-true, or_parts, eqb-true, and_from, or_right}
 use Rattle.std.proofs.lemmas.List.{append-nil}
 use Rattle.farm_base.specs.Limits.{most_rest_bytes}
 use Rattle.farm_history.specs.Lists.{Each}
@@ -29,7 +29,7 @@ use Rattle.front_loop.specs.inner.Stands.{World, IsEarly, StarvesNow, has_reason
 use Rattle.front_loop.specs.inner.Stages.{collecting, offering, Settles, Passes, Holds, Overflows, Starves, AnswersOne, AnswersWorn, RepliesOne, Passed, Cuts, Answers, CanCollect, CanOffer, CutShort}
 use Rattle.front_loop.proofs.Tables.{other, same, conns_set, conns_woken, each_set, each_none, each_woken, each_weaker, each_at}
 use Rattle.front_loop.proofs.Rests.{at_put}
-use Rattle.front_loop.proofs.Sitting.{clash, and_both, or_none, or_more, or_less, or_left, or_right, no_response, within, beyond, due_grows, text_grows, closes_again, unclosed_is, unclosed_calm, starves_now, lacks_again, sits_as, sits_again, others}
+use Rattle.front_loop.proofs.Sitting.{clash, or_none, or_more, or_less, or_left, no_response, within, beyond, due_grows, text_grows, closes_again, unclosed_is, unclosed_calm, starves_now, lacks_again, sits_as, sits_again, others}
 use Rattle.front_loop.proofs.Heards.{holds_rest}
 use Rattle.front_loop.proofs.Worlds.{settles_keys, settles_other}
 
@@ -252,7 +252,7 @@ module _ {A W T : Type 0} (R : Rules A W) (K : List ℕ → List (Move A) → T 
             record {
               rest_is = e ∙ ap (λ xs. xs ++ response) k.rest_is ∙ sym (due_grows R p.took before_it response after_it h.sits.low is);
               asked_all = k.asked_all;
-              whole = and_both (R.whole (old ++ p.moves) g) (each_whole R (old ++ p.moves)) (h.whole refl) k.whole;
+              whole = and_from (R.whole (old ++ p.moves) g) (each_whole R (old ++ p.moves)) (h.whole refl) k.whole;
               knows = h.knows refl;
               unclosed = unclosed_got k.unclosed h.why h.uncut l;
               owed = λ o. (refl, owes_by s.owes (h.response_is refl) (λ q. (k.owed q).1) (sym h.owes ∙ o));

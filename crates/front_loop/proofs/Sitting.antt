@@ -3,7 +3,7 @@ use Rattle.std.proofs.Common.{◌≡◌, ◌==◌, ◌<◌, ◌≤◌, ◌+◌, 
 use Rattle.std.specs.Prelude.{nat_le, unwrap_or}
 use Rattle.std.specs.Option.{is_none}
 use Rattle.std.specs.List.{list_any}
-use Rattle.std.proofs.lemmas.Bool.{lt-ltb, le-ltb, ltb-false}
+use Rattle.std.proofs.lemmas.Bool.{lt-ltb, le-ltb, ltb-false, or_parts, and_parts, or_right}
 use Rattle.std.proofs.lemmas.Bool.Decides.{nat_tests}
 use Rattle.std.proofs.lemmas.List.{drop-append-le, length-drop}
 use Rattle.farm_base.specs.Limits.{most_rest_bytes}
@@ -41,25 +41,9 @@ or_less true false true f h = refl
 or_less true false false f h = refl
 or_less false false b' f h = clash (sym h)
 
-pub or_right : (a b : Bool) → b ≡ true → (a || b) ≡ true
-or_right true b h = refl
-or_right false b h = h
-
 pub or_left : (a b : Bool) → a ≡ true → (a || b) ≡ true
 or_left true b h = refl
 or_left false b h = clash (sym h)
-
-pub and_both : (a b : Bool) → a ≡ true → b ≡ true → (a && b) ≡ true
-and_both true b h k = k
-and_both false b h k = clash (sym h)
-
-and_split : (a b : Bool) → (a && b) ≡ true → (a ≡ true) × (b ≡ true)
-and_split true b h = (refl, h)
-and_split false b h = clash (sym h)
-
-or_split : (b x : Bool) → (b || x) ≡ false → (b ≡ false) × (x ≡ false)
-or_split true x h = clash h
-or_split false x h = (refl, h)
 
 -- what is told of one connection stays
 pub open_map : (o : Option PortsTold) (f : PortsTold → PortsTold) (c : ℕ) → ((t : PortsTold) → (f t).is_open c ≡ t.is_open c) → IsOpen c o → IsOpen c (option_map f o)
@@ -76,10 +60,6 @@ pub no_response : (response : List ℕ) → nat_lt 0 (length response) ≡ false
 no_response [] h = refl
 no_response (b ∷ response) h = clash (sym (lt-ltb 0 (length (b ∷ response)) (omega arith)) ∙ h)
 
-pub no_bytes : (bytes : List ℕ) → length bytes ≡ 0 → bytes ≡ []
-no_bytes [] h = refl
-no_bytes (b ∷ bytes) h = absurd (omega (arith, h))
-
 -- how many bytes of a connection were taken after these sends
 abbrev pub took_after : List Send → ℕ → ℕ → ℕ
 took_after sends c n = in_turn (λ (s : Send) n. cond (s.conn == c) (n + unwrap_or s.taken 0) n) sends n
@@ -87,13 +67,13 @@ took_after sends c n = in_turn (λ (s : Send) n. cond (s.conn == c) (n + unwrap_
 pub untried_took : (sends : List Send) (c n : ℕ) → is_tried sends c ≡ false → took_after sends c n ≡ n
 untried_took [] c n h = refl
 untried_took (s ∷ ss) c n h =
-    let o = or_split (s.conn == c) (is_tried ss c) h in
+    let o = or_parts (s.conn == c) (is_tried ss c) h in
     ap (λ b. cond b (took_after ss c n + unwrap_or s.taken 0) (took_after ss c n)) o.0 ∙ untried_took ss c n o.1
 
 pub untried_failed : (sends : List Send) (c : ℕ) → is_tried sends c ≡ false → send_fails sends c ≡ false
 untried_failed [] c h = refl
 untried_failed (s ∷ ss) c h =
-    let o = or_split (s.conn == c) (is_tried ss c) h in
+    let o = or_parts (s.conn == c) (is_tried ss c) h in
     ap (λ b. (b && is_none s.taken) || send_fails ss c) o.0 ∙ untried_failed ss c o.1
 
 took_by : (b : Bool) (n m k : ℕ) → n ≤ m → n ≤ cond b (m + k) m
@@ -107,18 +87,18 @@ took_more (s ∷ ss) c n = took_by (s.conn == c) n (took_after ss c n) (unwrap_o
 module _ {A W : Type 0} (R : Rules A W) where
   pub each_is : (ms : List (Move A)) → each_whole R ms ≡ true → EachSoFar (λ ns m. R.whole ns m ≡ true) ms
   each_is [] h = tt
-  each_is (m ∷ ms) h = let a = and_split (R.whole ms m) (each_whole R ms) h in (a.0, each_is ms a.1)
+  each_is (m ∷ ms) h = let a = and_parts (R.whole ms m) (each_whole R ms) h in (a.0, each_is ms a.1)
 
   pub each_split : (ms old : List (Move A)) → each_whole R (ms ++ old) ≡ true → each_whole R old ≡ true
   each_split [] old h = h
-  each_split (m ∷ ms) old h = each_split ms old (and_split (R.whole (ms ++ old) m) (each_whole R (ms ++ old)) h).1
+  each_split (m ∷ ms) old h = each_split ms old (and_parts (R.whole (ms ++ old) m) (each_whole R (ms ++ old)) h).1
 
   -- where all are whole, none lacks an entry
   pub whole_asked : (over : Bool) (ms old : List (Move A)) → each_whole R (ms ++ old) ≡ true
       → EachSoFar (λ ns m. (over || (list_any is_cut (m ∷ ns) || R.whole (ns ++ old) m)) ≡ true) ms
   whole_asked over [] old h = tt
   whole_asked over (m ∷ ms) old h =
-      let a = and_split (R.whole (ms ++ old) m) (each_whole R (ms ++ old)) h in
+      let a = and_parts (R.whole (ms ++ old) m) (each_whole R (ms ++ old)) h in
       (or_right over (list_any is_cut (m ∷ ms) || R.whole (ms ++ old) m) (or_right (list_any is_cut (m ∷ ms)) (R.whole (ms ++ old) m) a.0), whole_asked over ms old a.1)
 
   -- more is answered by more moves

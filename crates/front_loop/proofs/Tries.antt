@@ -2,8 +2,9 @@
 use Rattle.std.proofs.Common.{◌≡◌, ◌==◌, ◌<◌, ◌≤◌, ◌+◌, ℕ, zero, suc, Bool, true, false, not, ◌&&◌, ◌||◌, cond, List, [], ◌∷◌, ◌++◌, length, set, take, drop, Option, Some, None, option_map, IfSome, Ok, Err, refl, sym, ap, subst, ◌∙◌, arith}
 use Rattle.std.specs.Prelude.{nat_le, ok_or, unwrap_or}
 use Rattle.std.specs.Option.{is_none}
-use Rattle.std.proofs.lemmas.Bool.{le-leb, lt-leb}
-use Rattle.std.proofs.lemmas.List.{drop-drop, length-drop, take_more_set}
+use Rattle.std.proofs.lemmas.Bool.{le-leb, lt-leb, and_from}
+use Rattle.std.proofs.lemmas.List.{drop-drop, length-drop, take_more_set, nil_from_length}
+use Rattle.std.proofs.Math.Bool.{or-false}
 use Rattle.farm_history.specs.Lists.{Each}
 use Rattle.port_events.specs.declared.events.PortEvent.{PortEvent}
 use Rattle.port_events.specs.declared.events.SendFault.TheVariants as send_fault
@@ -26,7 +27,7 @@ use Rattle.front_loop.specs.inner.Stands.{World, DispositionFits, Keeping, Sits}
 use Rattle.front_loop.specs.inner.Stages.{offering, OwesNone, OffersOne, Idle, Gives_it, Gives, disposition_after, part_or_all, CanOffer, CanLeave}
 use Rattle.front_loop.proofs.Tables.{other, same, has_at, conns_set, each_set, each_at, each_snoc}
 use Rattle.front_loop.proofs.Rests.{at_put, other_put, keys_put}
-use Rattle.front_loop.proofs.Sitting.{clash, and_both, no_bytes, untried_took, untried_failed, unclosed_is, unclosed_calm, starves_now, sits_as, others}
+use Rattle.front_loop.proofs.Sitting.{clash, untried_took, untried_failed, unclosed_is, unclosed_calm, starves_now, sits_as, others}
 use Rattle.front_loop.proofs.Heards.{holds_rest}
 use Rattle.front_loop.proofs.Worlds.{told_more, open_by}
 use Rattle.front_loop.proofs.Gots.{keeps_up, keeps_asks}
@@ -77,7 +78,7 @@ module _ {A W T : Type 0} (R : Rules A W) (K : List ℕ → List (Move A) → T 
           knows = kept.knows;
           unclosed = kept.unclosed;
           owed = λ e. clash (sym e);
-          nothing_due = λ _ m t. sym (ap (λ n. drop n answers) (untried_took sends c p.took t)) ∙ sym kept.rest_is ∙ no_bytes (rest_in box c) z;
+          nothing_due = λ _ m t. sym (ap (λ n. drop n answers) (untried_took sends c p.took t)) ∙ sym kept.rest_is ∙ nil_from_length (rest_in box c) z;
         })
         h.disposition_fits h.asked_all
 
@@ -109,11 +110,7 @@ module _ {A W T : Type 0} (R : Rules A W) (K : List ℕ → List (Move A) → T 
 
       fails_then : is_tried sends c ≡ false → send_fails r'.sends c ≡ is_none taken
       fails_then u =
-          ap (λ b. (b && is_none taken) || send_fails sends c) (same c) ∙ ap (λ b. is_none taken || b) (untried_failed sends c u) ∙ or_end (is_none taken)
-        where
-          or_end : (b : Bool) → (b || false) ≡ b
-          or_end true = refl
-          or_end false = refl
+          ap (λ b. (b && is_none taken) || send_fails sends c) (same c) ∙ ap (λ b. is_none taken || b) (untried_failed sends c u) ∙ or-false (is_none taken)
 
     module _ (n : ℕ) (u : is_tried sends c ≡ false) where
       abbrev rn : FrontRound A
@@ -204,7 +201,7 @@ module _ {A W T : Type 0} (R : Rules A W) (K : List ℕ → List (Move A) → T 
             let b = ap length rest_due ∙ length-drop p.took answers in
             let m = h.low in
             let x = untried_took sends c p.took u in
-            and_both (R.ends (ms ++ p.moves)) (nat_le (length answers) (p.took + n)) (sym d) (le-leb (length answers) (p.took + n) (omega (arith, a, b, z, m, x)))
+            and_from (R.ends (ms ++ p.moves)) (nat_le (length answers) (p.took + n)) (sym d) (le-leb (length answers) (p.took + n) (omega (arith, a, b, z, m, x)))
         end_done false z d = ap (λ x. x && nat_le (length answers) (p.took + n)) (sym d)
 
         part_left : 0 < length (drop n (rest_in box c)) → (R.ends (ms ++ p.moves) && nat_le (length answers) (p.took + n)) ≡ false

@@ -1,5 +1,5 @@
 -- All sessions are woken, one after another.
-use Rattle.std.proofs.Common.{◌≡◌, ◌<◌, ◌+◌, ℕ, zero, suc, List, [], ◌∷◌, ◌++◌, length, map, take, drop, set, get_or, refl, ap, ◌∙◌, arith, Option}
+use Rattle.std.proofs.Common.{◌≡◌, ◌<◌, ◌+◌, ℕ, zero, suc, List, [], ◌∷◌, ◌++◌, length, map, take, drop, set, get_or, refl, ap, ◌∙◌, arith, Option, add-one, sym}
 use Rattle.std.specs.declared.vec.Vec.{Vec}
 use Rattle.std.specs.Vec.{with_items}
 use Rattle.std.proofs.lemmas.List.{with_items_is}
@@ -9,9 +9,6 @@ use Rattle.front_loop.specs.declared.sessions.Session.{Session}
 use Rattle.front_loop.specs.declared.sessions.SessionTable.{SessionTable}
 use Rattle.front_loop.specs.inner.Sessions.{woken}
 use Rattle.front_loop.specs.inner.Stands.{World}
-
-one_more : (i : ℕ) → suc i ≡ i + 1
-one_more i = omega arith
 
 module _ {T : Type 0} where
   -- so many are woken, and the others as they were
@@ -24,7 +21,7 @@ module _ {T : Type 0} where
   woken_step (x ∷ xs) (suc i) d h = ap (λ ys. woken x ∷ ys) (woken_step xs i d (omega (arith, h)))
 
   pub woken_next : (ss : List (Session T)) (i : ℕ) (d : Session T) → i < length ss → set (woken_front i ss) i (woken (get_or (woken_front i ss) i d)) ≡ woken_front (i + 1) ss
-  woken_next ss i d h = woken_step ss i d h ∙ ap (λ n. woken_front n ss) (one_more i)
+  woken_next ss i d h = woken_step ss i d h ∙ ap (λ n. woken_front n ss) (sym (add-one i))
 
   pub woken_whole : (ss : List (Session T)) → woken_front (length ss) ss ≡ map woken ss
   woken_whole [] = refl

@@ -65,10 +65,6 @@ lines_one (b ∷ bytes) some h =
 abbrev pub place : List ℕ → Option ℕ
 place bytes = cond (ltb (position_or_len (λ b. eqb b 10) bytes) (length bytes)) (Some (position_or_len (λ b. eqb b 10) bytes)) None
 
-none_at : (t : Bool) (n : ℕ) → cond t (Some n) None ≡ None → t ≡ false
-none_at true n e = cc
-none_at false n e = refl
-
 -- where the place of the newline is found, and where there is none
 pub found_at : (bytes : List ℕ) (end : ℕ) → place bytes ≡ Some end → (position_or_len (λ b. eqb b 10) bytes ≡ end) × (end < length bytes)
 found_at bytes end e =
@@ -78,8 +74,7 @@ found_at bytes end e =
     (at, grind (arith, nat_tests))
 
 pub found_none : (bytes : List ℕ) → place bytes ≡ None → length bytes ≤ position_or_len (λ b. eqb b 10) bytes
-found_none bytes e =
-    let above : ltb (position_or_len (λ b. eqb b 10) bytes) (length bytes) ≡ false = none_at _ _ e in grind (arith, nat_tests)
+found_none bytes e = grind (arith, nat_tests)
 
 -- the rest of a list is all of it behind a place
 pub all_behind : (bytes : List ℕ) (n : ℕ) → n ≤ length bytes → take (length bytes - n) (drop n bytes) ≡ drop n bytes

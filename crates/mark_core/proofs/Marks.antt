@@ -13,9 +13,6 @@ pub mark_is : (a b : ℕ) (c p : Point) (x y : ℕ) → x ≡ c.x - p.x + (p.x -
 unfolding in_mark
 mark_is a b c p x y e f = rw (square-less c.x p.x x e, square-less c.y p.y y f) refl
 
-pub some_square : (a : ℕ) → 1 ≤ a → 1 ≤ a * a
-some_square a h = square_below 1 a h
-
 -- a point of an ellipse lies in its box
 pub mark_near : (a b : ℕ) (c p : Point) → in_mark a b c p ≡ true → (c.x - p.x + (p.x - c.x) ≤ a) × (c.y - p.y + (p.y - c.y) ≤ b)
 mark_near a b c p h =
@@ -24,8 +21,8 @@ mark_near a b c p h =
     let parts = and_parts (nat_le 1 a && nat_le 1 b) (nat_le (x * x * (b * b) + y * y * (a * a)) (a * a * (b * b))) (mark_is a b c p x y refl refl ∙ h) in
     let sides = and_parts (nat_le 1 a) (nat_le 1 b) parts.0 in
     let within = leb-true (x * x * (b * b) + y * y * (a * a)) (a * a * (b * b)) parts.1 in
-    let some_a = some_square a (leb-true 1 a sides.0) in
-    let some_b = some_square b (leb-true 1 b sides.1) in
+    let some_a = square_below 1 a (leb-true 1 a sides.0) in
+    let some_b = square_below 1 b (leb-true 1 b sides.1) in
     (root_le x a (cancel (x * x) (a * a) (b * b) some_b (omega arith)), root_le y b (cancel (y * y) (b * b) (a * a) some_a (omega arith)))
 
 pub reaches_parts : (a b y : ℕ) → (nat_le 1 a && nat_le 1 b && nat_le y b) ≡ true → (1 ≤ a) × (1 ≤ b) × (y ≤ b)
@@ -42,7 +39,7 @@ width_is a b y r n some within n_is root_is x =
     let top : ℕ = a * a * high in
     let split : high + y * y ≡ b * b = omega (arith, square_below y b within) in
     let e = ap (λ k. a * a * k) split in
-    root_is x ∙ ap (λ k. nat_le (x * x) k) n_is ∙ down_le top (b * b) (x * x) (some_square b some)
+    root_is x ∙ ap (λ k. nat_le (x * x) k) n_is ∙ down_le top (b * b) (x * x) (square_below 1 b some)
     ∙ elim (cases_lt top (x * x * (b * b))) [
       | inl h ↦ lt-leb (x * x * (b * b)) top h ∙ sym (lt-leb (x * x * (b * b) + y * y * (a * a)) (a * a * (b * b)) (omega (arith, e)))
       | inr h ↦ le-leb (x * x * (b * b)) top h ∙ sym (le-leb (x * x * (b * b) + y * y * (a * a)) (a * a * (b * b)) (omega (arith, e)))
@@ -51,7 +48,7 @@ width_is a b y r n some within n_is root_is x =
 pub width_little : (a b y r : ℕ) → 1 ≤ b → ((x : ℕ) → nat_le x r ≡ nat_le (x * x * (b * b) + y * y * (a * a)) (a * a * (b * b))) → r ≤ a
 width_little a b y r some is =
     let held = leb-true (r * r * (b * b) + y * y * (a * a)) (a * a * (b * b)) (sym (is r) ∙ le-leb r r (omega arith)) in
-    root_le r a (cancel (r * r) (a * a) (b * b) (some_square b some) (omega arith))
+    root_le r a (cancel (r * r) (a * a) (b * b) (square_below 1 b some) (omega arith))
 
 -- the row of an ellipse that reaches a height, and of one that does not
 pub mark_row : (a b : ℕ) (c p : Point) (y down width : ℕ) (row : Bool) → c.y ≡ y → down ≡ y - p.y + (p.y - y) → 1 ≤ a → 1 ≤ b
@@ -77,7 +74,7 @@ mark_off a b c p y down row same down_is far row_is =
         | inr k ↦ ap (λ t. t && within) (le-leb 1 b k) ∙ (
             let out : b < down = leb-false down b (sym (ap (λ t. t && nat_le down b) (le-leb 1 b k)) ∙ sym (ap (λ t. t && nat_le 1 b && nat_le down b) (le-leb 1 a h)) ∙ far) in
             let next : b + 1 ≤ down = omega arith in
-            lt-leb (x * x * (b * b) + down * down * (a * a)) (a * a * (b * b)) (omega (arith, some_square a h, mul-le-mul_right (a * a) (square_below (b + 1) down next))))
+            lt-leb (x * x * (b * b) + down * down * (a * a)) (a * a * (b * b)) (omega (arith, square_below 1 a h, mul-le-mul_right (a * a) (square_below (b + 1) down next))))
       ]
     ]
     ∙ sym row_is

@@ -1,8 +1,9 @@
 -- One connection of a list changes, or all do.
-use Rattle.std.proofs.Common.{◌≡◌, ◌<◌, ◌+◌, ◌==◌, ℕ, Bool, true, false, List, [], ◌∷◌, ◌++◌, length, map, take, drop, get_or, set, zero, suc, Option, Some, None, option_map, Result, Ok, Err, OnOk, refl, ap, sym, ◌∙◌, cond, arith}
+use Rattle.std.proofs.Common.{◌≡◌, ◌<◌, ◌+◌, ◌==◌, ℕ, Bool, true, false, List, [], ◌∷◌, ◌++◌, length, map, take, drop, get_or, set, zero, suc, Option, Some, None, option_map, refl, ap, sym, ◌∙◌, cond, arith}
 use Rattle.std.proofs.lemmas.Bool.Decides.{nat_tests}
 use Rattle.std.specs.List.{slice_get}
 use Rattle.std.proofs.lemmas.Bool.{ne_eqb}
+use Rattle.std.proofs.Math.Nat.{suc-add}
 use Rattle.port_events.specs.Told.{put}
 use Rattle.memory_ports.specs.Held.{PeerHeld, change}
 use Rattle.memory_ports.specs.Playing.{fresh}
@@ -24,21 +25,13 @@ map_more f [] i d y small is = absurd (omega (arith, small))
 map_more f (p ∷ ps) zero d y small is = ap (λ q. q ∷ ps) is
 map_more f (p ∷ ps) (suc i) d y small is =
     ap (λ qs. f p ∷ qs) (map_more f ps i d y (omega (arith, small)) is)
-    ∙ ap (λ n. map f (take n (p ∷ ps)) ++ drop n (p ∷ ps)) (sym (suc_add i))
-  where
-    suc_add : (k : ℕ) → suc k + 1 ≡ suc (k + 1)
-    suc_add k = omega arith
+    ∙ ap (λ n. map f (take n (p ∷ ps)) ++ drop n (p ∷ ps)) (sym (suc-add i 1))
 
 -- the same of a list that is equal to it
 pub maps_more : (f : PeerHeld → PeerHeld) (ps xs : List PeerHeld) (i : ℕ) (d y : PeerHeld) → xs ≡ map f (take i ps) ++ drop i ps → i < length ps → y ≡ f (get_or xs i d)
     → set xs i y ≡ map f (take (i + 1) ps) ++ drop (i + 1) ps
 maps_more f ps xs i d y same small is =
     ap (λ l. set l i y) same ∙ map_more f ps i d y small (is ∙ ap (λ l. f (get_or l i d)) same)
-
--- what holds of what a call gave where it gave something
-pub on_ok : {T E P Q : Type 0} → (r : Result T E) → (P → Q) → OnOk r P → OnOk r Q
-on_ok (Ok x) f h = f h
-on_ok (Err e) f h = tt
 
 eq_suc : (m n : ℕ) → (suc m == suc n) ≡ (m == n)
 eq_suc m n = grind (arith, nat_tests)

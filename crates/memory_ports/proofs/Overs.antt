@@ -1,5 +1,5 @@
 -- Steps that are passed over.
-use Rattle.std.proofs.Common.{◌≡◌, ◌<◌, ◌+◌, ◌&&◌, ◌||◌, ℕ, Bool, true, false, List, [], ◌∷◌, ◌++◌, length, drop, get_or, set, zero, suc, refl, ap, sym, ◌∙◌, subst, append_assoc, arith}
+use Rattle.std.proofs.Common.{◌≡◌, ◌<◌, ◌+◌, ◌&&◌, ◌||◌, ℕ, Bool, true, false, List, [], ◌∷◌, ◌++◌, length, drop, get_or, set, zero, suc, refl, ap, sym, ◌∙◌, subst, append_assoc, add-one}
 use Rattle.std.proofs.lemmas.List.{drop_more}
 use Rattle.std.proofs.lemmas.List.Folds.{list_all-append, list_any-append}
 use Rattle.std.specs.List.{list_all, list_any}
@@ -38,9 +38,6 @@ passes_on peers steps from i s reached reaches small is p h =
     (subst (λ l. Passed peers (drop from steps) l reached) (drop_more steps i s small ∙ ap (λ x. x ∷ drop (i + 1) steps) (sym is)) p)
     h.1)
 
-suc_is : (i : ℕ) → suc i ≡ i + 1
-suc_is i = omega arith
-
 all_dropped_suc : {X : Type 0} (p : X → Bool) (xs : List X) (i : ℕ) → list_all p (drop i xs) ≡ true → list_all p (drop (suc i) xs) ≡ true
 all_dropped_suc p [] i h = refl
 all_dropped_suc p (x ∷ xs) zero h = (and_parts (p x) (list_all p xs) h).1
@@ -48,7 +45,7 @@ all_dropped_suc p (x ∷ xs) (suc i) h = all_dropped_suc p xs i h
 
 -- what holds of all that is left holds after one more
 pub all_dropped : {X : Type 0} (p : X → Bool) (xs : List X) (i : ℕ) → list_all p (drop i xs) ≡ true → list_all p (drop (i + 1) xs) ≡ true
-all_dropped p xs i h = subst (λ n. list_all p (drop n xs) ≡ true) (suc_is i) (all_dropped_suc p xs i h)
+all_dropped p xs i h = subst (λ n. list_all p (drop n xs) ≡ true) (sym (add-one i)) (all_dropped_suc p xs i h)
 
 dropped_suc : {X : Type 0} (xs : List X) (i : ℕ) → drop (suc i) xs ≡ drop 1 (drop i xs)
 dropped_suc [] zero = refl
@@ -57,7 +54,7 @@ dropped_suc (x ∷ xs) zero = refl
 dropped_suc (x ∷ xs) (suc i) = dropped_suc xs i
 
 pub dropped : {X : Type 0} (xs : List X) (i : ℕ) → drop (i + 1) xs ≡ drop 1 (drop i xs)
-dropped xs i = ap (λ n. drop n xs) (sym (suc_is i)) ∙ dropped_suc xs i
+dropped xs i = ap (λ n. drop n xs) (add-one i) ∙ dropped_suc xs i
 
 -- the pieces of a script that is in order
 pub valid_pieces : (alive : List Bool) (ss : List PortStep) → is_valid alive ss ≡ true → list_all has_piece ss ≡ true

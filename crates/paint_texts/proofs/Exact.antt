@@ -237,15 +237,12 @@ parts_read r g b c p q w =
 spell : (r g b : List ℕ) → codes "rgb(" ++ r ++ codes "," ++ g ++ codes "," ++ b ++ codes ")" ≡ codes "rgb(" ++ (r ++ 44 ∷ (g ++ 44 ∷ (b ++ 41 ∷ [])))
 spell r g b = simp append_assoc
 
-same_bytes : (xs ys : List ℕ) → bytes_eq xs ys ≡ true → xs ≡ ys
-same_bytes xs ys e = (bytes_eq-Decides xs ys).0 e
-
 mixed_is : (text : List ℕ) (c : Colour) → rgb_colour text ≡ Some c → IsMixed text c
 unfolding rgb_colour
 mixed_is text c e =
     let k = if_some (bytes_eq (take 4 text) (codes "rgb(")) (parts (drop 4 text)) c e in
     let (r, g, b, s, x, y, z) = parts_are (drop 4 text) c k.1 in
-    (r, g, b, sym (take-append-drop 4 text) ∙ ap (λ t. t ++ drop 4 text) (same_bytes (take 4 text) (codes "rgb(") k.0) ∙ ap (λ t. codes "rgb(" ++ t) s ∙ sym (spell r g b), x, y, z)
+    (r, g, b, sym (take-append-drop 4 text) ∙ ap (λ t. t ++ drop 4 text) ((bytes_eq-Decides (take 4 text) (codes "rgb(")).0 k.0) ∙ ap (λ t. codes "rgb(" ++ t) s ∙ sym (spell r g b), x, y, z)
 
 mixed_read : (text : List ℕ) (c : Colour) → IsMixed text c → colour_of text ≡ Some c
 unfolding colour_of hash_colour rgb_colour
@@ -269,7 +266,7 @@ unfolding colour_by_name
 named_is text c e =
     let k = map_some (λ e. e.1) (find (λ e. bytes_eq text e.0) colour_names) c e in
     let f = find_in (λ e. bytes_eq text e.0) colour_names k.0 k.1 in
-    let same : k.0 ≡ (text, c) = ap₂ (λ x y. (x, y)) (sym (same_bytes text k.0.0 f.1)) k.2 in
+    let same : k.0 ≡ (text, c) = ap₂ (λ x y. (x, y)) (sym ((bytes_eq-Decides text k.0.0).0 f.1)) k.2 in
     subst (Contains colour_names) same f.0
 
 names_read : All (λ e. colour_of e.0 ≡ Some e.1) colour_names

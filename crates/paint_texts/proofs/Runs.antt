@@ -6,6 +6,7 @@ use Rattle.std.proofs.lemmas.List.{drop_more, drop_all}
 use Rattle.std.proofs.lemmas.Bool.Decides.{nat_tests}
 use Rattle.std.proofs.lemmas.List.Folds.{list_all_at}
 use Rattle.std.proofs.Math.Nat.{pow-suc, pow-le-pow_right, mul-le-mul}
+use Rattle.std.proofs.lemmas.Bool.{false≢true}
 use Rattle.farm_base.specs.Digits.{is_digit, number_after}
 
 -- a list behind one more element
@@ -61,12 +62,9 @@ digit_at ds k d h k_fits e = go (is_digit (get_or ds k 0)) refl
     within : (x : ℕ) → is_digit x ≡ true → (48 ≤ x) × (x ≤ 57)
     within x t = (grind (arith, nat_tests), grind (arith, nat_tests))
 
-    wrong : false ≡ true → ⊥
-    wrong w = grind arith
-
     go : (b : Bool) → is_digit (get_or ds k 0) ≡ b → (48 ≤ d) × (d ≤ 57)
     go true t = within d (ap is_digit e ∙ t)
-    go false t = absurd (wrong (sym (list_all_at is_digit ds k 0 k_fits t) ∙ h))
+    go false t = absurd (false≢true (sym (list_all_at is_digit ds k 0 k_fits t) ∙ h))
 
 -- what up to 12 digits and a place value of at most 1,000 come to
 pub product_fits : (a b n p : ℕ) → n < 10 ^ a → a ≤ 12 → p ≡ 10 ^ b → b ≤ 3 → n * p ≤ 10 ^ 15

@@ -4,6 +4,7 @@ use Rattle.std.specs.List.{position, position_or_len}
 use Rattle.std.specs.Option.{is_some}
 use Rattle.std.proofs.lemmas.Bool.Decides.{nat_tests}
 use Rattle.std.proofs.lemmas.List.Recursion.{is_position_or_len}
+use Rattle.std.proofs.Math.Nat.{suc-add}
 use Rattle.port_events.specs.Boxes.{rest_at, put_rest, without}
 use Rattle.port_events.specs.inner.Places.{Here}
 
@@ -19,16 +20,13 @@ here_zero p ps c h = record {
   removes = sym (ap (λ b. cond b ps (p ∷ without ps c)) h);
 }
 
-suc_add : (i : ℕ) → suc i + 1 ≡ suc (i + 1)
-suc_add i = omega arith
-
 -- behind another
 here_suc : (p : ℕ × List ℕ) (ps : List (ℕ × List ℕ)) (c i : ℕ) → is_of c p ≡ false → Here ps c i → Here (p ∷ ps) c (suc i)
 here_suc p ps c i h at = record {
   small = omega (arith, at.small);
   rest = λ d. ap (λ b. cond b (Some p.1) (rest_at ps c)) h ∙ at.rest d;
   writes = λ d r. ap (λ xs. p ∷ xs) (at.writes d r) ∙ sym (ap (λ b. cond b ((p.0, r) ∷ ps) (p ∷ put_rest ps c r)) h);
-  removes = ap (λ n. take (suc i) (p ∷ ps) ++ drop n (p ∷ ps)) (suc_add i) ∙ ap (λ xs. p ∷ xs) at.removes ∙ sym (ap (λ b. cond b ps (p ∷ without ps c)) h);
+  removes = ap (λ n. take (suc i) (p ∷ ps) ++ drop n (p ∷ ps)) (suc-add i 1) ∙ ap (λ xs. p ∷ xs) at.removes ∙ sym (ap (λ b. cond b ps (p ∷ without ps c)) h);
 }
 
 pub here : (box : List (ℕ × List ℕ)) (c i : ℕ) (d : ℕ × List ℕ) → i < length box → is_of c (get_or box i d) ≡ true → ((k : ℕ) → k < i → is_of c (get_or box k d) ≡ false) → Here box c i

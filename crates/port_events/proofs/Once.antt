@@ -39,9 +39,6 @@ none_added : (ps : List (ℕ × List ℕ)) (c d : ℕ) → (c == d) ≡ false �
 none_added [] c d e h = ap (λ b. cond b (Some []) None) e
 none_added (p ∷ ps) c d e h = head_none (p.0 == d) p.1 p.1 (rest_at ps d) (rest_at (ps ++ (c, []) ∷ []) d) (none_added ps c d e) h
 
-turned : (m n : ℕ) → (m == n) ≡ false → (n == m) ≡ false
-turned m n e = grind (arith, nat_tests, e)
-
 once_put_by : (p : ℕ × List ℕ) (ps : List (ℕ × List ℕ)) (c : ℕ) (r : List ℕ) → StandsOnce (p ∷ ps) → StandsOnce (put_rest ps c r)
     → (b : Bool) → StandsOnce (cond b ((p.0, r) ∷ ps) (p ∷ put_rest ps c r))
 once_put_by p ps c r h k true = h
@@ -62,7 +59,6 @@ once_without (p ∷ ps) c h = once_without_by p ps c h (once_without ps c h.1) (
 
 pub once_added : (box : List (ℕ × List ℕ)) (c : ℕ) → StandsOnce box → rest_at box c ≡ None → StandsOnce (box ++ (c, []) ∷ [])
 once_added [] c h e = (refl, tt)
-once_added (p ∷ ps) c h e = (
-  none_added ps c p.0 (turned p.0 c (not_head (p.0 == c) p.1 (rest_at ps c) e)) h.0,
-  once_added ps c h.1 (tail_none (p.0 == c) p.1 (rest_at ps c) e),
-)
+once_added (p ∷ ps) c h e =
+    let other = not_head (p.0 == c) p.1 (rest_at ps c) e in
+    (none_added ps c p.0 (grind (arith, nat_tests, other)) h.0, once_added ps c h.1 (tail_none (p.0 == c) p.1 (rest_at ps c) e))

@@ -23,7 +23,7 @@ use Rattle.raster_core.proofs.Downward.{between}
 
 -- ---- the ends of a column
 
-twice_same : (b : Bool) → flip b b ≡ false
+pub twice_same : (b : Bool) → flip b b ≡ false
 twice_same true = refl
 twice_same false = refl
 

@@ -9,6 +9,7 @@ use Rattle.std.proofs.lemmas.List.Sorted.{list_any-IsPermutation}
 use Rattle.std.proofs.lemmas.Nat.{pow_below}
 use Rattle.std.proofs.Math.Nat.{pow-le-pow_right}
 use Rattle.std.proofs.lemmas.Option.{slice_get_past}
+use Rattle.std.proofs.Math.Bool.{or-false, and-or_distrib_right}
 use Rattle.farm_history.specs.declared.keys.Key.{Key}
 use Rattle.farm_history.proofs.Lists.{each-all}
 use Rattle.geo_model.specs.declared.bounds.Bounds.{Bounds}
@@ -186,20 +187,13 @@ module _ (maps : List MapPlan) (boxes : List Bounds) (few : length maps ≤ 16) 
           step : (nat_lt mp.tile (16 * 2 ^ i) || (mp.tile == size)) ≡ nat_lt mp.tile (16 * 2 ^ (i + 1))
           step = ap (λ s. nat_lt mp.tile (16 * 2 ^ i) || (mp.tile == s)) is ∙ size_step mp.tile i tile low
 
-          spread : (a b r : Bool) → ((a && r) || (b && r)) ≡ ((a || b) && r)
-          spread a b r = grind arith
-
           go : (b : Bool) → (mp.tile == size) ≡ b → ((nat_lt mp.tile (16 * 2 ^ i) && (z && boxes_reach_map boxes (Some mp) k.meta)) || (b && (z && list_any (λ x. is_met x size k) boxes))) ≡ (nat_lt mp.tile (16 * 2 ^ (i + 1)) && (z && boxes_reach_map boxes (Some mp) k.meta))
           go true e =
               let own : mp.tile ≡ size = eqb-true mp.tile size e in
               ap (λ n. (nat_lt mp.tile (16 * 2 ^ i) && (z && boxes_reach_map boxes (Some mp) k.meta)) || (true && (z && list_any (λ x. is_met x n k) boxes))) (sym own)
-              ∙ (spread (nat_lt mp.tile (16 * 2 ^ i)) true (z && boxes_reach_map boxes (Some mp) k.meta)
+              ∙ (sym (and-or_distrib_right (nat_lt mp.tile (16 * 2 ^ i)) true (z && boxes_reach_map boxes (Some mp) k.meta))
               ∙ ap (λ x. x && (z && boxes_reach_map boxes (Some mp) k.meta)) (ap (λ x. nat_lt mp.tile (16 * 2 ^ i) || x) (sym e) ∙ step))
-          go false e = or_none (nat_lt mp.tile (16 * 2 ^ i) && (z && boxes_reach_map boxes (Some mp) k.meta)) ∙ ap (λ x. x && (z && boxes_reach_map boxes (Some mp) k.meta)) (sym (or_none (nat_lt mp.tile (16 * 2 ^ i))) ∙ (ap (λ x. nat_lt mp.tile (16 * 2 ^ i) || x) (sym e) ∙ step))
-            where
-              or_none : (x : Bool) → (x || false) ≡ x
-              or_none true = refl
-              or_none false = refl
+          go false e = or-false (nat_lt mp.tile (16 * 2 ^ i) && (z && boxes_reach_map boxes (Some mp) k.meta)) ∙ ap (λ x. x && (z && boxes_reach_map boxes (Some mp) k.meta)) (sym (or-false (nat_lt mp.tile (16 * 2 ^ i))) ∙ (ap (λ x. nat_lt mp.tile (16 * 2 ^ i) || x) (sym e) ∙ step))
 
       same : (k : Key) → (below_size maps boxes i k || is_near_bits word size boxes k) ≡ below_size maps boxes (i + 1) k
       same k = ap (λ x. below_size maps boxes i k || (x && (nat_lt k.meta.z 19 && list_any (λ b. is_met b size k) boxes))) (within k) ∙ both (slice_get maps k.map) k (nat_lt k.meta.z 19) (tiles k.map)

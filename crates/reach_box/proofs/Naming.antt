@@ -1,5 +1,5 @@
 -- The features that are looked up by the ids of a change are those that it names, where no two features of a layer have one id.
-use Rattle.std.proofs.Common.{◌≡◌, ℕ, Bool, true, false, ◌||◌, ◌&&◌, cond, List, [], ◌∷◌, ◌++◌, map, filter, flat_map, find, All, Some, refl, sym, ap, ap₂, ◌∙◌, arith}
+use Rattle.std.proofs.Common.{◌≡◌, ℕ, Bool, true, false, ◌||◌, ◌&&◌, cond, List, [], ◌∷◌, ◌++◌, filter, flat_map, find, All, Some, refl, sym, ap, ap₂, ◌∙◌, arith}
 use Rattle.std.specs.Prelude.{nat_eq, option_map, unwrap_or}
 use Rattle.std.specs.Str.{bytes_eq}
 use Rattle.std.specs.List.{list_any, AllByRecursion, IsDistinct}
@@ -8,7 +8,8 @@ use Rattle.std.proofs.lemmas.List.Sorted.{list_any-IsPermutation}
 use Rattle.std.proofs.lemmas.Bool.Decides.{nat_tests}
 use Rattle.std.proofs.lemmas.List.Elements.{recursion_from_All}
 use Rattle.std.proofs.lemmas.Map.Keys.{IsDistinct-head, IsDistinct-tail}
-use Rattle.farm_history.proofs.Lists.{any-append}
+use Rattle.std.proofs.Math.Bool.{or-false, or_assoc, and-or_distrib_right}
+use Rattle.farm_history.proofs.Lists.{any-append, any-both, any-map}
 use Rattle.plain_shapes.specs.Features.{Feature, Layer}
 use Rattle.plain_shapes.specs.Data.{Change, has_id, ids_of, layer_named, IsLayer}
 use Rattle.farm_plan.specs.Drawings.{features_in, names_id, named_by, named}
@@ -27,18 +28,6 @@ any_either p q (x ∷ xs) = grind (arith, any_either p q xs)
 any_with : {X : Type 0} (p : X → Bool) (b : Bool) (xs : List X) → list_any (λ x. p x && b) xs ≡ (list_any p xs && b)
 any_with p b [] = refl
 any_with p b (x ∷ xs) = grind (arith, any_with p b xs)
-
-any_filter : {X : Type 0} (q t : X → Bool) (xs : List X) → list_any q (filter t xs) ≡ list_any (λ x. t x && q x) xs
-any_filter q t [] = refl
-any_filter q t (x ∷ xs) = go (t x) (any_filter q t xs)
-  where
-    go : (b : Bool) → list_any q (filter t xs) ≡ list_any (λ y. t y && q y) xs → list_any q (cond b (x ∷ filter t xs) (filter t xs)) ≡ ((b && q x) || list_any (λ y. t y && q y) xs)
-    go true ih = ap (λ r. q x || r) ih
-    go false ih = ih
-
-any_map : {X Y : Type 0} (p : Y → Bool) (f : X → Y) (xs : List X) → list_any p (map f xs) ≡ list_any (λ x. p (f x)) xs
-any_map p f [] = refl
-any_map p f (x ∷ xs) = ap (λ r. p (f x) || r) (any_map p f xs)
 
 any_flat : {X Y : Type 0} (q : Y → Bool) (f : X → List Y) (xs : List X) → list_any q (flat_map f xs) ≡ list_any (λ x. list_any q (f x)) xs
 any_flat q f [] = refl
@@ -74,43 +63,25 @@ swapped q ids (f ∷ fs) =
     any_either (λ id. nat_eq f.id id && q f) (found q fs) ids
     ∙ ap₂ (λ a r. a || r) (any_with (nat_eq f.id) (q f) ids) (swapped q ids fs)
 
-grouped : (a b c : Bool) → (a || (b || c)) ≡ ((a || b) || c)
-grouped true b c = refl
-grouped false b c = refl
-
-both_named : (a b q : Bool) → ((a && q) || (b && q)) ≡ ((a || b) && q)
-both_named true true true = refl
-both_named true true false = refl
-both_named true false q = or_false q
-  where
-    or_false : (x : Bool) → (x || false) ≡ x
-    or_false true = refl
-    or_false false = refl
-both_named false b q = refl
-
 one_change : (q : Feature → Bool) (fs : List Feature) (c : Change) → IsDistinct nat_eq (ids_of fs) → list_any q (met_by fs c) ≡ list_any q (filter (λ f. names_id c f.id) fs ++ c.put)
 one_change q fs c apart =
     any-append q (flat_map (at_id fs) c.remove) (flat_map (at_put fs) c.put)
     ∙ (ap₂ (λ a b. a || b) (any_flat q (at_id fs) c.remove ∙ (ap (λ t. list_any t c.remove) (λ i id. at_found q id fs apart i) ∙ swapped q c.remove fs)) put
-    ∙ (grouped (list_any (λ f. has_id c.remove f.id && q f) fs) (list_any (λ f. has_id (ids_of c.put) f.id && q f) fs) (list_any q c.put)
+    ∙ (sym (or_assoc (list_any (λ f. has_id c.remove f.id && q f) fs) (list_any (λ f. has_id (ids_of c.put) f.id && q f) fs) (list_any q c.put))
     ∙ (ap (λ a. a || list_any q c.put) old ∙ sym (any-append q (filter (λ f. names_id c f.id) fs) c.put))))
   where
     of_put : (p : Feature) → list_any q (at_put fs p) ≡ (found q fs p.id || q p)
-    of_put p = any-append q (at_id fs p.id) (p ∷ []) ∙ ap₂ (λ a b. a || b) (at_found q p.id fs apart) (last (q p))
-      where
-        last : (x : Bool) → (x || false) ≡ x
-        last true = refl
-        last false = refl
+    of_put p = any-append q (at_id fs p.id) (p ∷ []) ∙ ap₂ (λ a b. a || b) (at_found q p.id fs apart) (or-false (q p))
 
     put : list_any q (flat_map (at_put fs) c.put) ≡ (list_any (λ f. has_id (ids_of c.put) f.id && q f) fs || list_any q c.put)
     put =
         any_flat q (at_put fs) c.put ∙ (ap (λ t. list_any t c.put) (λ i p. of_put p i)
-        ∙ (any_either (λ p. found q fs p.id) q c.put ∙ ap (λ a. a || list_any q c.put) (sym (any_map (found q fs) (λ (f : Feature). f.id) c.put) ∙ swapped q (ids_of c.put) fs)))
+        ∙ (any_either (λ p. found q fs p.id) q c.put ∙ ap (λ a. a || list_any q c.put) (sym (any-map (λ (f : Feature). f.id) (found q fs) c.put) ∙ swapped q (ids_of c.put) fs)))
 
     old : (list_any (λ f. has_id c.remove f.id && q f) fs || list_any (λ f. has_id (ids_of c.put) f.id && q f) fs) ≡ list_any q (filter (λ f. names_id c f.id) fs)
     old =
         sym (any_either (λ f. has_id c.remove f.id && q f) (λ f. has_id (ids_of c.put) f.id && q f) fs)
-        ∙ (ap (λ t. list_any t fs) (λ i f. both_named (has_id c.remove f.id) (has_id (ids_of c.put) f.id) (q f) i) ∙ sym (any_filter q (λ f. names_id c f.id) fs))
+        ∙ (ap (λ t. list_any t fs) (λ i f. sym (and-or_distrib_right (has_id c.remove f.id) (has_id (ids_of c.put) f.id) (q f)) i) ∙ sym (any-both q (λ f. names_id c f.id) fs))
 
 -- ---- by layers
 
@@ -150,7 +121,7 @@ put_apart q fs (f ∷ puts) =
 
 -- the old features of the ids that a change removes or puts, in whatever order these are, and those that it puts are what it meets
 pub met_ordered : (q : Feature → Bool) (fs : List Feature) (c : Change) (ids : List ℕ) → IsPermutation (c.remove ++ ids_of c.put) ids → list_any q (flat_map (at_id fs) ids ++ c.put) ≡ list_any q (met_by fs c)
-met_ordered q fs c ids moved = apart ∙ (sym (grouped (some_of q fs c.remove) (some_of q fs (ids_of c.put)) (list_any q c.put)) ∙ sym met)
+met_ordered q fs c ids moved = apart ∙ (or_assoc (some_of q fs c.remove) (some_of q fs (ids_of c.put)) (list_any q c.put) ∙ sym met)
   where
     some_old : list_any q (flat_map (at_id fs) ids) ≡ (some_of q fs c.remove || some_of q fs (ids_of c.put))
     some_old =

@@ -1,6 +1,7 @@
 -- The chain of each key after each step.
-use Rattle.std.proofs.Common.{◌≡◌, Bool, true, false, not, ◌&&◌, cond, List, [], ◌∷◌, ◌++◌, length, map, filter, Option, Some, None, refl, sym, ap, subst, ◌∙◌, arith}
+use Rattle.std.proofs.Common.{◌≡◌, Bool, true, false, not, ◌&&◌, cond, List, [], ◌∷◌, ◌++◌, map, filter, Option, Some, None, refl, sym, ap, subst, ◌∙◌, arith}
 use Rattle.std.proofs.lemmas.List.Sums.{length-filter}
+use Rattle.std.proofs.lemmas.List.{nil_from_length}
 use Rattle.farm_history.specs.declared.keys.Key.{Key}
 use Rattle.farm_history.specs.declared.queues.Conn.{Conn}
 use Rattle.farm_history.specs.declared.queues.Outcome.{Outcome}
@@ -14,16 +15,12 @@ use Rattle.render_queues.specs.Laws.{LawChains, reply_from}
 use Rattle.render_queues.proofs.Counted.{stands_never}
 
 -- a list of no length
-no_items : {X : Type 0} (xs : List X) → length xs ≡ 0 → xs ≡ []
-no_items [] h = refl
-no_items (x ∷ xs) h = absurd (omega arith)
-
 map-append : {X Y : Type 0} (f : X → Y) (xs ys : List X) → map f (xs ++ ys) ≡ map f xs ++ map f ys
 map-append f [] ys = refl
 map-append f (x ∷ xs) ys = ap (λ zs. f x ∷ zs) (map-append f xs ys)
 
 chain_new : (t : Tables) (k : Key) → AreSound t → standing t k ≡ None → chain_of t k ≡ []
-chain_new t k sound none = ap (map (λ a. a.waiter)) (no_items (filter (waits_on k) t.asks) (length-filter (waits_on k) t.asks ∙ sound.awaited k (stands_never t k none)))
+chain_new t k sound none = ap (map (λ a. a.waiter)) (nil_from_length (filter (waits_on k) t.asks) (length-filter (waits_on k) t.asks ∙ sound.awaited k (stands_never t k none)))
 
 pub chain_joined : (t : Tables) (key : Key) (w : Waiter) (k : Key) → chain_of (after_join t key (Some w)) k ≡ chain_of t k ++ cond (same_key key k) (w ∷ []) []
 chain_joined t key w k =

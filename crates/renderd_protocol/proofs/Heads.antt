@@ -2,7 +2,7 @@
 use Rattle.std.proofs.Common.{◌≡◌, ◌⊎◌, ℕ, ◌+◌, ◌≤◌, List, [], ◌++◌, length, take, drop, Bool, true, false, not, cond, nat_lt, nat_le, refl, sym, ap, ◌∙◌, arith, length-append, length-take, length-drop}
 use Rattle.std.proofs.lemmas.Bool.Decides.{nat_tests}
 use Rattle.std.proofs.lemmas.List.{drop-append-le, take-append-le, take-append-drop}
-use Rattle.std.proofs.lemmas.Bool.{le-ltb, ltb-false}
+use Rattle.std.proofs.lemmas.Bool.{le-ltb, ltb-false, leb-true}
 use Rattle.byteorder.specs.Endian.{little_number}
 use Rattle.byteorder.specs.Numbers.{little_from-append}
 use Rattle.renderd_protocol.specs.declared.messages.Request.{Request}
@@ -38,15 +38,12 @@ by_test : (b : Bool) (x y : List ℕ) → (b ≡ true → x ≡ y) → cond b x 
 by_test true x y h = h refl
 by_test false x y h = refl
 
-test_holds : (a b : ℕ) → nat_le a b ≡ true → a ≤ b
-test_holds a b h = grind (arith, nat_tests)
-
 pub text_from-append : (least place : ℕ) (m more : List ℕ) → 4 ≤ length m → (least ≤ number_at 0 m → place + 40 ≤ length m)
     → text_from least place (m ++ more) ≡ text_from least place m
 text_from-append least place m more l h =
     ap (λ v. cond (nat_le least v) (text_at place (m ++ more)) []) (number_at-append 0 m more (omega arith))
     ∙ by_test (nat_le least (number_at 0 m)) (text_at place (m ++ more)) (text_at place m)
-    (λ t. text_at-append place m more (h (test_holds least (number_at 0 m) t)))
+    (λ t. text_at-append place m more (h (leb-true least (number_at 0 m) t)))
 
 pub at_least_20 : (m : List ℕ) → IsMessage m → 20 ≤ length m
 at_least_20 m is = omega (arith, len_first (number_at 0 m) is.version, is.whole)

@@ -1,9 +1,11 @@
 -- Runs painted straight on the picture, one after another, at full opacity.
-use Rattle.std.proofs.Common.{◌≡◌, ℕ, zero, suc, ◌+◌, ◌-◌, ◌*◌, ◌/◌, ◌%◌, ◌<◌, ◌≤◌, ◌⊎◌, Bool, true, false, List, [], ◌∷◌, ◌++◌, length, take, drop, map, get_or, replicate, refl, ap, sym, ◌∙◌, inl, inr, arith}
+use Rattle.std.proofs.Common.{◌≡◌, ℕ, zero, suc, ◌+◌, ◌-◌, ◌*◌, ◌/◌, ◌%◌, ◌<◌, ◌≤◌, ◌⊎◌, Bool, true, false, List, [], ◌∷◌, length, get_or, replicate, refl, ap, sym, ◌∙◌, inl, inr, arith}
 use Rattle.std.specs.Prelude.{if◌then◌else◌, ⊤}
 use Rattle.std.proofs.Math.Nat.{mul-le-mul_right, div-add-mod, mod-lt}
 use Rattle.std.proofs.lemmas.Bool.{cases_lt, true≢false}
 use Rattle.std.proofs.lemmas.List.{get_or-replicate, get_or_past, ext_get_or, length-replicate}
+use Rattle.std.proofs.lemmas.Nat.{div_below}
+use Rattle.tiled_image.proofs.JoinedRuns.{run_at, run_before, run_behind}
 use Rattle.plain_world.specs.declared.world.Point.{Point}
 use Rattle.plain_world.specs.declared.world.Window.{Window}
 use Rattle.plain_world.specs.World.{centre, centres}
@@ -20,49 +22,16 @@ use Rattle.tile_render.specs.declared.brushes.Brush.{Brush}
 use Rattle.tile_render.specs.inner.Regions.{IsRegion, InRegion, region_window, Holds, Tells, over_member}
 use Rattle.tile_render.specs.inner.Canvases.{IsCanvas}
 use Rattle.tile_render.specs.inner.Brushes.{brush_cols, brush_rows, IsOver, HasColour, ShowsBits}
-use Rattle.tile_render.proofs.Changing.{place_row}
 use Rattle.tile_render.proofs.Covering.{region_told}
 
 -- ---- what stands at a place of a list after a run of it is changed
-
-first_in : {X : Type 0} (f : X → X) (n : ℕ) (xs : List X) (k : ℕ) (d : X) → k < n → k < length xs → get_or (map f (take n xs) ++ drop n xs) k d ≡ f (get_or xs k d)
-first_in f zero xs k d lt within = absurd (omega arith)
-first_in f (suc n) [] k d lt within = absurd (omega arith)
-first_in f (suc n) (x ∷ xs) zero d lt within = refl
-first_in f (suc n) (x ∷ xs) (suc k) d lt within = first_in f n xs k d (omega arith) (omega arith)
-
-first_past : {X : Type 0} (f : X → X) (n : ℕ) (xs : List X) (k : ℕ) (d : X) → n ≤ k → get_or (map f (take n xs) ++ drop n xs) k d ≡ get_or xs k d
-first_past f zero xs k d le = refl
-first_past f (suc n) [] k d le = refl
-first_past f (suc n) (x ∷ xs) zero d le = absurd (omega arith)
-first_past f (suc n) (x ∷ xs) (suc k) d le = first_past f n xs k d (omega arith)
-
-pub run_in : {X : Type 0} (f : X → X) (s n : ℕ) (xs : List X) (k : ℕ) (d : X) → s ≤ k → k < s + n → k < length xs → get_or (run_changed f s n xs) k d ≡ f (get_or xs k d)
-run_in f zero n xs k d low high within = first_in f n xs k d (omega arith) within
-run_in f (suc s) n [] k d low high within = absurd (omega arith)
-run_in f (suc s) n (x ∷ xs) zero d low high within = absurd (omega arith)
-run_in f (suc s) n (x ∷ xs) (suc k) d low high within = run_in f s n xs k d (omega arith) (omega arith) (omega arith)
 
 -- a place before a run, or past it
 abbrev pub Beyond : ℕ → ℕ → ℕ → Type 0
 Beyond k s n = (k < s) ⊎ (s + n ≤ k)
 
-run_before : {X : Type 0} (f : X → X) (s n : ℕ) (xs : List X) (k : ℕ) (d : X) → k < s → get_or (run_changed f s n xs) k d ≡ get_or xs k d
-run_before f zero n xs k d lt = absurd (omega arith)
-run_before f (suc s) zero [] k d lt = refl
-run_before f (suc s) (suc n) [] k d lt = refl
-run_before f (suc s) n (x ∷ xs) zero d lt = refl
-run_before f (suc s) n (x ∷ xs) (suc k) d lt = run_before f s n xs k d (omega arith)
-
-run_past : {X : Type 0} (f : X → X) (s n : ℕ) (xs : List X) (k : ℕ) (d : X) → s + n ≤ k → get_or (run_changed f s n xs) k d ≡ get_or xs k d
-run_past f zero n xs k d le = first_past f n xs k d (omega arith)
-run_past f (suc s) zero [] k d le = refl
-run_past f (suc s) (suc n) [] k d le = refl
-run_past f (suc s) n (x ∷ xs) zero d le = absurd (omega arith)
-run_past f (suc s) n (x ∷ xs) (suc k) d le = run_past f s n xs k d (omega arith)
-
 pub run_beyond : {X : Type 0} (f : X → X) (s n : ℕ) (xs : List X) (k : ℕ) (d : X) → Beyond k s n → get_or (run_changed f s n xs) k d ≡ get_or xs k d
-run_beyond f s n xs k d out = elim out [ inl lt ↦ run_before f s n xs k d lt | inr le ↦ run_past f s n xs k d le ]
+run_beyond f s n xs k d out = elim out [ inl lt ↦ run_before f s n k xs d lt | inr le ↦ run_behind f s n k xs d le ]
 
 -- ---- one run more
 
@@ -145,7 +114,7 @@ run_painted r colour bits next start now after j from end over count hj order fi
   count = ap length pixels ∙ run_length (blend colour 1000) place n now.pixels ∙ p.count;
   on = λ v i hv hi set. elim (spot r across v i j from n over.in_cols hi run) [
     | inl here ↦ ap (λ ps. get_or ps (at v i) colour) pixels
-        ∙ run_in (blend colour 1000) place n now.pixels (at v i) colour (low v i here) (high v i here) (inside v i hv hi)
+        ∙ run_at (blend colour 1000) place n (at v i) now.pixels colour (low v i here) (high v i here) (inside v i hv hi)
         ∙ full_over colour (get_or now.pixels (at v i) colour)
     | inr far ↦ kept v i far ∙ p.on v i hv hi (sym (same v i far) ∙ set)
   ];
@@ -203,7 +172,7 @@ run_painted r colour bits next start now after j from end over count hj order fi
         let down : v + 1 ≤ r.rows = omega arith in
         let a = ap (λ k. k * r.cols) here.row in
         ap (λ bs. get_or bs (v * r.cols + i) false) next_is
-        ∙ run_in (λ _. true) (j * r.cols + from) n bits (v * r.cols + i) false (omega (arith, here.from_col, a)) (omega (arith, here.to_col, a))
+        ∙ run_at (λ _. true) (j * r.cols + from) n (v * r.cols + i) bits false (omega (arith, here.from_col, a)) (omega (arith, here.to_col, a))
         (omega (arith, count, mul-le-mul_right r.cols down))
 
 -- ---- no run, and all runs
@@ -319,7 +288,7 @@ all_painted w r member colour bits start now ok cols rows count tells p = λ i. 
         let split : k ≡ v * w.cols + u = omega (arith, div-add-mod k w.cols) in
         let here : k ≡ v * start.cols + u = split ∙ ap (λ n. v * n + u) (sym cols) in
         let hu : u < w.cols = mod-lt k some in
-        let hv : v < w.rows = place_row k w.cols w.rows some within in
+        let hv : v < w.rows = div_below k w.cols w.rows some within in
         ap (λ q. get_or now.pixels q colour) here
         ∙ pixel_is w r member colour bits start now v u cols hu hv tells p
         ∙ ap (λ q. f (centre w u v) (get_or start.pixels q colour)) (sym here)

@@ -1,8 +1,8 @@
 -- The pixels of a window changed by their centres, one after another.
-use Rattle.std.proofs.Common.{◌≡◌, ℕ, zero, suc, ◌+◌, ◌-◌, ◌*◌, ◌/◌, ◌%◌, ◌<◌, ◌≤◌, List, length, take, get_or, refl, ap, sym, ◌∙◌, inl, inr, arith}
-use Rattle.std.proofs.Math.Nat.{mul-le-mul_right, div-add-mod, mod-lt}
-use Rattle.std.proofs.lemmas.Bool.{cases_lt}
+use Rattle.std.proofs.Common.{◌≡◌, ℕ, zero, suc, ◌+◌, ◌-◌, ◌*◌, ◌/◌, ◌%◌, ◌<◌, ◌≤◌, List, length, take, get_or, refl, ap, sym, ◌∙◌, arith}
+use Rattle.std.proofs.Math.Nat.{div-add-mod, mod-lt}
 use Rattle.std.proofs.lemmas.List.{take_all}
+use Rattle.std.proofs.lemmas.Nat.{div_below}
 use Rattle.plain_world.specs.declared.world.Point.{Point}
 use Rattle.plain_world.specs.declared.world.Window.{Window}
 use Rattle.plain_shapes.specs.declared.colour.Colour.{Colour}
@@ -30,9 +30,6 @@ at_skip f cs xs n (suc k) d fits off =
     ∙ at_off f cs xs (n + k) d (omega arith) (off (n + k) (omega arith) (omega arith))
     ∙ at_skip f cs xs n k d (omega arith) (λ p low high. off p low (omega arith))
 
-pub place_row : (p c r : ℕ) → 1 ≤ c → p < r * c → p / c < r
-place_row p c r some lt = elim (cases_lt (p / c) r) [ inl h ↦ h | inr h ↦ absurd (omega (arith, mul-le-mul_right c h, div-add-mod p c)) ]
-
 -- past pixels that the step does not change
 pub changed_skip : (f : Point → Colour → Colour) (w : Window) (n next : ℕ) (start now : Pixels) → 1 ≤ w.cols → n ≤ next → next ≤ w.rows * w.cols
     → ((j i : ℕ) → i < w.cols → j < w.rows → n ≤ j * w.cols + i → j * w.cols + i < next → (x : Colour) → f (centre w i j) x ≡ x)
@@ -44,7 +41,7 @@ changed_skip f w n next start now some le fits off r =
     let each : (p : ℕ) → n ≤ p → p < n + k → (x : Colour) → f (get_or (centres w) p d) x ≡ x = λ p low high x.
     (let split : p / w.cols * w.cols + p % w.cols ≡ p = omega (arith, div-add-mod p w.cols) in
     let col : p % w.cols < w.cols = mod-lt p (omega arith) in
-    let row : p / w.cols < w.rows = place_row p w.cols w.rows some (omega arith) in
+    let row : p / w.cols < w.rows = div_below p w.cols w.rows some (omega arith) in
     ap (λ q. f (get_or (centres w) q d) x) (sym split)
     ∙ ap (λ c. f c x) (get_or-centres w (p / w.cols) (p % w.cols) d col row)
     ∙ off (p / w.cols) (p % w.cols) col row (omega arith) (omega arith) x) in

@@ -6,6 +6,7 @@ use Rattle.std.proofs.Math.Nat.{mul-le-mul_right, min-eq_left, min-eq_right, min
 use Rattle.std.proofs.lemmas.Bool.{cases_lt, le-ltb, lt-ltb}
 use Rattle.std.proofs.lemmas.List.{get_or_default}
 use Rattle.std.proofs.lemmas.List.FromFn.{get_or-map-range_with_len, length-map-range_with_len}
+use Rattle.std.proofs.Math.Bool.{and-false}
 use Rattle.plain_world.specs.declared.world.Point.{Point}
 use Rattle.plain_world.specs.declared.world.Window.{Window}
 use Rattle.plain_world.specs.World.{centre}
@@ -86,13 +87,9 @@ not_in g c p q west north past =
 past_columns : (g : Grid) (c : Point) → g.cols ≤ column_at g c → grid_at g c ≡ None
 past_columns g c past = not_in g c _ _ refl refl (λ west north. ap (λ b. b && nat_lt ((c.y - g.north) / g.pixel) g.rows) (outside g.west g.pixel g.cols c.x past west))
 
-and_false : (b : Bool) → (b && false) ≡ false
-and_false true = refl
-and_false false = refl
-
 past_rows : (g : Grid) (c : Point) → g.rows ≤ row_at g c → grid_at g c ≡ None
 past_rows g c past = not_in g c _ _ refl refl (λ west north.
-    ap (λ b. nat_lt ((c.x - g.west) / g.pixel) g.cols && b) (outside g.north g.pixel g.rows c.y past north) ∙ and_false (nat_lt ((c.x - g.west) / g.pixel) g.cols))
+    ap (λ b. nat_lt ((c.x - g.west) / g.pixel) g.cols && b) (outside g.north g.pixel g.rows c.y past north) ∙ and-false (nat_lt ((c.x - g.west) / g.pixel) g.cols))
 
 -- places of a row that lie between two places of another are of that row
 same_row : (c j v i from end : ℕ) → i < c → end ≤ c → j * c + from ≤ v * c + i → v * c + i < j * c + end → (v ≡ j) × (from ≤ i) × (i < end)

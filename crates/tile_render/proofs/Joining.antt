@@ -10,6 +10,8 @@ use Rattle.std.proofs.lemmas.Bool.{cases_lt, and_parts, and_from, eqb-true, eq-e
 use Rattle.std.proofs.lemmas.List.{take_all, get_or_default, length-append, length-replicate}
 use Rattle.std.proofs.lemmas.List.Elements.{All-push, All-weaker}
 use Rattle.std.proofs.lemmas.List.Folds.{list_any-append, list_any_none, list_any_more, list_any_at}
+use Rattle.std.proofs.lemmas.Bool.Decides.{same_from_decides}
+use Rattle.tiled_image.proofs.JoinedRuns.{run_at}
 use Rattle.plain_world.specs.declared.world.Point.{Point}
 use Rattle.plain_world.specs.declared.world.Window.{Window}
 use Rattle.plain_world.specs.World.{centre, centres}
@@ -21,7 +23,7 @@ use Rattle.plain_image.proofs.Runs.{run_length}
 use Rattle.tile_render.specs.declared.pieces.Piece.{Piece}
 use Rattle.tile_render.specs.declared.pieces.Pieces.{Pieces}
 use Rattle.tile_render.specs.inner.Pieces.{row_of, start_of, IsPiece, has, covered, place, IsBefore, Apart, ToldBits, ShowsPieces, PiecesTell}
-use Rattle.tile_render.proofs.Brushing.{Beyond, run_in, run_beyond, unset}
+use Rattle.tile_render.proofs.Brushing.{Beyond, run_beyond, unset}
 use Rattle.tile_render.proofs.Covering.{bit_told}
 use Rattle.tile_render.proofs.Runs.{NextRun, ordered}
 
@@ -50,11 +52,6 @@ or_split : (a b : Bool) → (a || b) ≡ true → (a ≡ true) ⊎ (b ≡ true)
 or_split true b e = inl refl
 or_split false b e = inr e
 
-same_bool : (a b : Bool) → (a ≡ true → b ≡ true) → (b ≡ true → a ≡ true) → a ≡ b
-same_bool true b to back = sym (to refl)
-same_bool false true to back = back refl
-same_bool false false to back = refl
-
 -- ---- pieces joined
 
 -- the first k pieces are joined: those that are kept, and the last one
@@ -68,7 +65,7 @@ pub record JoinedTo (pieces kept : List Piece) (last : Piece) (k : ℕ) : Type 0
 -- a piece that begins in the last one, or at its end
 pub merged_has : (j i : ℕ) (last piece : Piece) (end : ℕ) → row_of piece ≡ (row_of last) → start_of last ≤ (start_of piece) → start_of piece ≤ last.end → last.end ≤ end → piece.end ≤ end
     → (end ≡ last.end) ⊎ (end ≡ piece.end) → has j i (record last { end = end }) ≡ (has j i last || has j i piece)
-merged_has j i last piece end row from touches left right which = same_bool _ _ to back
+merged_has j i last piece end row from touches left right which = same_from_decides _ _ (to, back) (λ h. h, λ h. h)
   where
     to : has j i (record last { end = end }) ≡ true → (has j i last || has j i piece) ≡ true
     to e =
@@ -194,7 +191,7 @@ run_bit cols j from end p bits v i er es ee order fits col within = elim (cases_
           | inl west ↦ off (inl (omega (arith, a))) (λ h. omega (arith, h.from, es))
           | inr west ↦ (elim (cases_lt i end) [
             | inl inner ↦
-                run_in (λ _. true) (j * cols + from) (end - from) bits (v * cols + i) false (omega (arith, a)) (omega (arith, a)) within
+                run_at (λ _. true) (j * cols + from) (end - from) (v * cols + i) bits false (omega (arith, a)) (omega (arith, a)) within
                 ∙ sym (or_right (get_or bits (v * cols + i) false) _ (in_piece v i p (record { row = e ∙ sym er; from = omega (arith, es, west); to = omega (arith, ee, inner) })))
             | inr east ↦ off (inr (omega (arith, a))) (λ h. omega (arith, h.to, ee))
           ])

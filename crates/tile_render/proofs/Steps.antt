@@ -4,10 +4,6 @@ use Rattle.std.specs.Prelude.{Result, Ok, Err, OnOk, OnErr, Option, None, Some, 
 use Rattle.std.proofs.lemmas.List.{append-nil, take_more}
 use Rattle.std.proofs.lemmas.Grind.{fold-append, flat_map-append}
 
-pub on_ok : {T E : Type 0} {P Q : Type 0} (r : Result T E) → (P → Q) → OnOk r P → OnOk r Q
-on_ok (Ok x) f h = f h
-on_ok (Err e) f h = tt
-
 -- the same for the lists that a list's items give
 pub named_next : {X Y A : Type 0} (h : A → Y → A) (g : X → List Y) (xs : List X) (a now next : A) (i : ℕ) (x : X) → i < length xs → x ≡ get_or xs i x
     → now ≡ fold h a (flat_map g (take i xs)) → next ≡ fold h now (g x) → next ≡ fold h a (flat_map g (take (i + 1) xs))

@@ -5,6 +5,7 @@ use Rattle.std.specs.List.{list_any}
 use Rattle.std.proofs.Math.ListN.{set}
 use Rattle.std.proofs.lemmas.Bool.{cases_lt, and_parts, eqb-true, leb-true}
 use Rattle.std.proofs.lemmas.List.{take_all, drop_all, append-nil}
+use Rattle.std.proofs.Math.Bool.{or_assoc}
 use Rattle.tile_render.specs.declared.pieces.Piece.{Piece}
 use Rattle.tile_render.specs.inner.Pieces.{row_of, start_of, IsPiece, has}
 use Rattle.tile_render.proofs.Joining.{merged_has}
@@ -17,10 +18,6 @@ or_turned false false = refl
 
 or_put : (a b c : Bool) → ((a || b) || c) ≡ ((a || c) || b)
 or_put a b c = grind arith
-
-or_later : (a b c : Bool) → (a || (b || c)) ≡ ((a || b) || c)
-or_later true b c = refl
-or_later false b c = refl
 
 abbrev pub both_of : Piece → Piece → Piece
 both_of p q = record { place = min p.place q.place; end = max p.end q.end }
@@ -71,7 +68,7 @@ module _ (p q : Piece) (met : (nat_eq (row_of p) (row_of q) && (nat_le (start_of
 pub set_any : {X : Type 0} (test : X → Bool) (xs : List X) (k : ℕ) (x y : X) (more : Bool) → k < length xs → x ≡ get_or xs k x → test y ≡ (test x || more) → list_any test (set xs k y) ≡ (list_any test xs || more)
 set_any test [] k x y more within is put = absurd (omega (arith, within))
 set_any test (z ∷ xs) zero x y more within is put = ap (λ t. t || list_any test xs) put ∙ (ap (λ u. (test u || more) || list_any test xs) is ∙ or_put (test z) more (list_any test xs))
-set_any test (z ∷ xs) (suc k) x y more within is put = ap (λ t. test z || t) (set_any test xs k x y more (omega (arith, within)) is put) ∙ or_later (test z) (list_any test xs) more
+set_any test (z ∷ xs) (suc k) x y more within is put = ap (λ t. test z || t) (set_any test xs k x y more (omega (arith, within)) is put) ∙ sym (or_assoc (test z) (list_any test xs) more)
 
 -- a list's elements after a slice of all of them was changed in place
 pub lent_back : {X : Type 0} (new old : List X) (n : ℕ) → length new ≡ length old → n ≡ length old → take n (new ++ drop (length new) old) ≡ new

@@ -2,6 +2,7 @@
 use Rattle.std.proofs.Common.{◌≡◌, ℕ, zero, suc, ◌+◌, ◌≤◌, List, [], ◌∷◌, length, sym, refl, ap, ◌∙◌, subst, arith, cond, eq-eqb, ne_eqb}
 use mathlib.Core.Logic.{dite}
 use native.Mathlib.Decide.{ℕ_discrete, dec_le}
+use Rattle.std.proofs.lemmas.List.{nil_from_length}
 use Rattle.turn_cell.specs.Turns.{by, NoneAbove}
 use Rattle.turn_cell.specs.inner.Cell.{below}
 use Rattle.turn_cell.specs.SeatStates.{Made, SeatState, first_of, split_left, joining, Knows}
@@ -27,12 +28,8 @@ module _ {E : Type 0} where
   length-numbers n (x ∷ xs) none =
       let inside : x.0 ≤ n = dite (dec_le x.0 n) (λ le. le)
       (λ out. let gone = none x.0 (omega arith) in absurd (omega (arith, ap length gone, one_more x xs x.0, only-same x.0))) in
-      let later : NoneAbove n xs = λ k out. empty (by k xs) (let gone = none k out in omega (arith, ap length gone, one_more x xs k)) in
+      let later : NoneAbove n xs = λ k out. nil_from_length (by k xs) (let gone = none k out in omega (arith, ap length gone, one_more x xs k)) in
       omega (arith, length-numbers n xs later, below-sum (λ k. length (by k (x ∷ xs))) (only x.0) (λ k. length (by k xs)) (one_more x xs) (suc n), only-below x.0 (suc n) (omega arith))
-    where
-      empty : {A : Type 0} (l : List A) → length l ≡ 0 → l ≡ []
-      empty [] e = refl
-      empty (y ∷ ys) e = absurd (omega arith)
 
 -- two seats were split from a first one, which took no turn, and were joined into it
 pub seen_by_two : {T E : Type 0} (made : Made T) (one two v : SeatState T E) → v ≡ joining (joining (split_left (split_left (first_of made))) one) two → Knows v → one.number ≡ 1 → two.number ≡ 2

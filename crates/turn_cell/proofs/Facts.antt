@@ -1,9 +1,10 @@
 -- What the rule says of single seats, and that it survives a step which changes one seat.
-use Rattle.std.proofs.Common.{◌≡◌, ℕ, zero, suc, ◌+◌, ◌<◌, ◌≤◌, ◌≢◌, ◌⊎◌, Bool, true, false, List, [], ◌∷◌, length, set, sum_by, sym, refl, ap, ◌∙◌, subst, inl, inr, ⊎_elim, arith, Option, Some, None}
+use Rattle.std.proofs.Common.{◌≡◌, ℕ, zero, suc, ◌+◌, ◌<◌, ◌≤◌, ◌≢◌, ◌⊎◌, true, false, List, [], ◌∷◌, length, set, sum_by, sym, refl, ap, ◌∙◌, subst, ⊎_elim, arith, Option, Some, None}
 use mathlib.Core.Logic.{dite}
 use native.Mathlib.Decide.{ℕ_discrete}
 use mathlib.Core.Option.{some, some-injective}
 use lib.ListN.{get_elem?}
+use Rattle.std.proofs.lemmas.Bool.{cases_Bool}
 use Rattle.atomic_table.specs.Table.{State}
 use Rattle.atomic_table.proofs.Lists.{at_set}
 use Rattle.turn_cell.specs.Turns.{HasJoined, NoneAbove}
@@ -12,22 +13,8 @@ use Rattle.turn_cell.specs.declared.view.Terms.{Terms}
 use Rattle.turn_cell.specs.declared.view.View.{View}
 use Rattle.turn_cell.proofs.Sums.{sum_changed, one_within, two_within, weightless, only, only-same, only-once, only-inside}
 
-pub differ : true ≡ false → ⊥
-differ e = cc
-
-pub true_or_false : (b : Bool) → (b ≡ true) ⊎ (b ≡ false)
-true_or_false true = inl refl
-true_or_false false = inr refl
-
 pub live_spent : {A : Type 0} {o : Option A} {x : A} → o ≡ Some x → o ≡ None → ⊥
 live_spent live spent = let both = sym live ∙ spent in cc
-
-pub Some-injective : {A : Type 0} (x y : A) → Some x ≡ Some y → x ≡ y
-Some-injective x y e = cc
-
-pub none_of_length : {A : Type 0} (l : List A) → length l ≡ 0 → l ≡ []
-none_of_length [] e = refl
-none_of_length (x ∷ xs) e = absurd (omega arith)
 
 -- a place of a list that was set
 pub set_at : {A : Type 0} (l : List A) (j : ℕ) (v w : A) → get_elem? l j ≡ some v → get_elem? (set l j w) j ≡ some w
@@ -99,7 +86,7 @@ module _ {T E L : Type 0} (stands : T → List (ℕ × E) → Type 0) (lasting :
       let theirs : drawn f u ≡ 1 = drawn-one f u t ((o.fits k u at_k).holds h).0 ∙ only-same t in
       absurd (omega (arith, two_within (drawn f) s.views j k v u ne at_j at_k, o.tickets f, only-once t o.now.ticket)))
       (λ (h : u.holds ≡ false). h)
-      (true_or_false u.holds)
+      (cases_Bool u.holds)
 
   -- where the ticket of a seat is served that has not counted, as many turns were served as there are entries
   pub log_length : (j : ℕ) (v : View T E) → get_elem? s.views j ≡ some v → v.tickets ≡ o.now.serving ∷ [] → v.counted ≡ 0 → length o.now.log ≡ o.now.serving

@@ -1,11 +1,12 @@
 -- Each kind of step of a turn keeps the rule.
-use Rattle.std.proofs.Common.{◌≡◌, ℕ, ◌+◌, ◌%◌, ◌^◌, ◌<◌, ◌≤◌, ◌≢◌, true, false, List, [], ◌∷◌, ◌++◌, length, get_or, set, sum_by, sym, refl, ap, ◌∙◌, subst, arith, cond, eqb, eq-eqb, ne_eqb, Option, Some, length-set, length-append}
+use Rattle.std.proofs.Common.{◌≡◌, ℕ, ◌+◌, ◌%◌, ◌^◌, ◌<◌, ◌≤◌, ◌≢◌, true, false, List, [], ◌∷◌, ◌++◌, length, get_or, set, sum_by, sym, refl, ap, ◌∙◌, subst, arith, cond, eqb, eq-eqb, ne_eqb, Option, Some, length-set, length-append, true≢false}
 use Rattle.std.proofs.lemmas.List.{append-nil}
 use mathlib.Core.Logic.{dite}
 use native.Mathlib.Decide.{ℕ_discrete}
 use mathlib.Core.Option.{none, some}
 use lib.ListN.{get_elem?}
 use lib.Seq.{set-get_or}
+use Rattle.std.proofs.lemmas.Option.{same_Some}
 use prog.Atomic.{either}
 use Rattle.atomic_table.specs.Table.{step, keeps, takes, gives, Allows}
 use Rattle.atomic_table.proofs.Lists.{set_here, set_else, set_again, exchanged}
@@ -16,7 +17,7 @@ use Rattle.turn_cell.specs.declared.view.Terms.{Terms}
 use Rattle.turn_cell.specs.declared.view.View.{View}
 use Rattle.turn_cell.proofs.Sums.{below_next}
 use Rattle.turn_cell.proofs.Logs.{by-own, by-other, starts_more, starts_through, none_before}
-use Rattle.turn_cell.proofs.Facts.{differ, live_spent, Some-injective, set_at, same_at, St, cell, apart, joined_apart, number_le, ticket_below, none_holds, log_length, kept}
+use Rattle.turn_cell.proofs.Facts.{live_spent, set_at, same_at, St, cell, apart, joined_apart, number_le, ticket_below, none_holds, log_length, kept}
 
 module _ {T E L : Type 0} (stands : T → List (ℕ × E) → Type 0) (lasting : T → L) (a : Terms T) where
   abbrev Rule : St T E → Type 0
@@ -85,7 +86,7 @@ module _ {T E L : Type 0} (stands : T → List (ℕ × E) → Type 0) (lasting :
       kept stands lasting a s o id v w d (set s.words 0 (r + 1)) s.homes me (refl, refl) (refl, refl)
       (ap (λ (ws : List ℕ). set ws 0 (r + 1)) o.words) (omega arith) o.slots
       (λ k u ne at_k. let f = o.fits k u at_k in record { sees = f.sees; own = f.own; worn = λ h. let reached = f.worn h in omega arith; holds = f.holds; counts = f.counts; spent = f.spent; heard = f.heard; first = f.first })
-      (record { sees = fit.sees; own = fit.own; worn = λ h. let reached = fit.worn h in omega arith; holds = λ h. absurd (differ (sym h ∙ out)); counts = fit.counts; spent = λ h. absurd (live_spent live h); heard = fit.heard; first = fit.first })
+      (record { sees = fit.sees; own = fit.own; worn = λ h. let reached = fit.worn h in omega arith; holds = λ h. absurd (true≢false (sym h ∙ out)); counts = fit.counts; spent = λ h. absurd (live_spent live h); heard = fit.heard; first = fit.first })
       (λ f. let none-before : sum_by f v.tickets ≡ 0 = ap (sum_by f) none-yet in omega (arith, below_next f r, ap (below f) is, ap f is)) (omega arith)
       (λ free. o.home (λ k u at_k. dite (ℕ_discrete k id)
       (λ e. ap (λ (x : View T E). x.holds) (sym (same_at s.views id k v u e me at_k)) ∙ out)
@@ -141,13 +142,13 @@ module _ {T E L : Type 0} (stands : T → List (ℕ × E) → Type 0) (lasting :
               own = λ b at_b. let f = fit.own b at_b in (f.0, f.1, f.1);
               worn = fit.worn;
               holds = λ _. (turn, refl);
-              counts = λ h. absurd (differ h);
+              counts = λ h. absurd (true≢false h);
               spent = λ h. absurd (live_spent live h);
               heard = λ k l at_k. starts_through log m.0.seen l fit.sees (fit.heard k l at_k);
               first = λ h. let f = fit.first h in (f.0, f.1, f.2, o.past);
             })
             (λ f. omega arith) (omega arith)
-            (λ free. absurd (differ (free id w (set_at s.views id m.0 w me))))
+            (λ free. absurd (true≢false (free id w (set_at s.views id m.0 w me))))
             o.past o.strangers,
         λ k at_k. (
           (λ _. (
@@ -155,7 +156,7 @@ module _ {T E L : Type 0} (stands : T → List (ℕ × E) → Type 0) (lasting :
             log,
             refl,
             got.2,
-            (λ b at_b. subst (λ (c : Terms T). (lasting x ≡ lasting c.first.value) × (length log < c.limit) × (c.limit ≤ 2 ^ 62)) (Some-injective a b (sym live ∙ at_b)) (got.3, omega arith, o.small)),
+            (λ b at_b. subst (λ (c : Terms T). (lasting x ≡ lasting c.first.value) × (length log < c.limit) × (c.limit ≤ 2 ^ 62)) (same_Some a b (sym live ∙ at_b)) (got.3, omega arith, o.small)),
             (fit.sees, (fit.own a live).1 ∙ sym (fit.own a live).2),
             knows_joined o.now id m.0 log fit o.past,
             knows_strangers o.now id m.0 log fit o.strangers,
@@ -194,7 +195,7 @@ module _ {T E L : Type 0} (stands : T → List (ℕ × E) → Type 0) (lasting :
               sees = starts_more log u.seen (x ∷ []) f.sees;
               own = λ b at_u. let own = f.own b at_u in (own.0, by-other u.number log x (λ same. apart stands lasting a s o id k m.0 u a b ne me at_k live at_u same) ∙ own.1, own.2);
               worn = f.worn;
-              holds = λ h. absurd (differ (sym h ∙ none_holds stands lasting a s o id m.0 me has.0 k u ne at_k));
+              holds = λ h. absurd (true≢false (sym h ∙ none_holds stands lasting a s o id m.0 me has.0 k u ne at_k));
               counts = f.counts;
               spent = f.spent;
               heard = f.heard;
@@ -209,19 +210,19 @@ module _ {T E L : Type 0} (stands : T → List (ℕ × E) → Type 0) (lasting :
               );
               worn = fit.worn;
               holds = λ _. (has.0, seen_whole);
-              counts = λ h. absurd (differ (sym holds ∙ h));
+              counts = λ h. absurd (true≢false (sym holds ∙ h));
               spent = λ h. absurd (live_spent live h);
               heard = λ k l at_k. starts_more m.0.seen l (x ∷ []) (fit.heard k l at_k);
               first = λ h. let f = fit.first h in (f.0, f.1, f.2, still_joined m.0.seen f.3);
             })
             (λ f. omega arith) (omega arith)
-            (λ free. absurd (differ (sym holds ∙ free id w (set_at s.views id m.0 w me))))
+            (λ free. absurd (true≢false (sym holds ∙ free id w (set_at s.views id m.0 w me))))
             (still_joined log o.past) still_none,
         λ e' says'. (
-          ap (λ (c : E). (counting m.0 c, m.1)) (Some-injective e e' (sym says ∙ says')),
-          subst (λ (c : E). KnowsJoined m.0 (m.0.seen ++ (m.0.number, c) ∷ [])) (Some-injective e e' (sym says ∙ says'))
+          ap (λ (c : E). (counting m.0 c, m.1)) (same_Some e e' (sym says ∙ says')),
+          subst (λ (c : E). KnowsJoined m.0 (m.0.seen ++ (m.0.number, c) ∷ [])) (same_Some e e' (sym says ∙ says'))
               (λ first. knows_joined o.now id m.0 (m.0.seen ++ x ∷ []) fit (still_joined m.0.seen (fit.first first).3) first),
-          subst (λ (c : E). KnowsStrangers m.0 (m.0.seen ++ (m.0.number, c) ∷ [])) (Some-injective e e' (sym says ∙ says'))
+          subst (λ (c : E). KnowsStrangers m.0 (m.0.seen ++ (m.0.number, c) ∷ [])) (same_Some e e' (sym says ∙ says'))
               (subst (λ (l : List (ℕ × E)). KnowsStrangers m.0 l) (sym seen_whole) (knows_strangers o.now id m.0 (log ++ x ∷ []) fit still_none)),
         ),
       )
@@ -248,7 +249,7 @@ module _ {T E L : Type 0} (stands : T → List (ℕ × E) → Type 0) (lasting :
               sees = f.sees;
               own = f.own;
               worn = f.worn;
-              holds = λ h. absurd (differ (sym h ∙ none_holds stands lasting a s o id v me has.0 k u ne at_k));
+              holds = λ h. absurd (true≢false (sym h ∙ none_holds stands lasting a s o id v me has.0 k u ne at_k));
               counts = f.counts;
               spent = f.spent;
               heard = f.heard;
@@ -258,7 +259,7 @@ module _ {T E L : Type 0} (stands : T → List (ℕ × E) → Type 0) (lasting :
               sees = fit.sees;
               own = fit.own;
               worn = fit.worn;
-              holds = λ h. absurd (differ (sym h));
+              holds = λ h. absurd (true≢false (sym h));
               counts = λ _. refl;
               spent = λ h. absurd (live_spent live h);
               heard = fit.heard;

@@ -1,10 +1,11 @@
 -- Making a cell, splitting and joining seats keep the rule, and what the rule says of a cell that is closed.
-use Rattle.std.proofs.Common.{◌≡◌, ℕ, zero, suc, ◌+◌, ◌^◌, ◌<◌, ◌≤◌, ◌≢◌, ◌⊎◌, Bool, true, false, ◌||◌, List, [], ◌∷◌, ◌++◌, length, set, sum_by, sym, refl, ap, ◌∙◌, subst, inl, inr, ⊎_elim, arith, Option, Some, None}
+use Rattle.std.proofs.Common.{◌≡◌, ℕ, zero, suc, ◌+◌, ◌^◌, ◌<◌, ◌≤◌, ◌≢◌, ◌⊎◌, Bool, true, false, ◌||◌, List, [], ◌∷◌, ◌++◌, length, set, sum_by, sym, refl, ap, ◌∙◌, subst, inl, inr, ⊎_elim, arith, Option, Some, None, true≢false}
 use Rattle.std.proofs.lemmas.List.Sums.{sum_by-append}
 use mathlib.Core.Logic.{dite}
 use native.Mathlib.Decide.{ℕ_discrete, dec_le}
 use mathlib.Core.Option.{some, some-injective, some-ne-none}
 use lib.ListN.{get_elem?}
+use Rattle.std.proofs.lemmas.Option.{same_Some}
 use Rattle.atomic_table.specs.Table.{opening, Splits, Joins, Final, Seen}
 use Rattle.atomic_table.proofs.Lists.{at_set, set_else, at_snoc, at_longer}
 use Rattle.turn_cell.specs.Turns.{by, StartsWith}
@@ -14,7 +15,7 @@ use Rattle.turn_cell.specs.declared.view.Terms.{Terms}
 use Rattle.turn_cell.specs.declared.view.View.{View}
 use Rattle.turn_cell.proofs.Sums.{sum_changed, two_within, weightless, weighty, sum-ones, below_suc, below-each, only, only-is, only-below}
 use Rattle.turn_cell.proofs.Logs.{starts_longer, longer_starts_left, longer_starts_right, by-longer_left, by-longer_right, none_before, whole}
-use Rattle.turn_cell.proofs.Facts.{differ, live_spent, Some-injective, same_at, St, named-live}
+use Rattle.turn_cell.proofs.Facts.{live_spent, same_at, St, named-live}
 
 or_true : (b c : Bool) → b || c ≡ true → (b ≡ true) ⊎ (c ≡ true)
 or_true true c e = inl refl
@@ -47,9 +48,9 @@ module _ {T E L : Type 0} (stands : T → List (ℕ × E) → Type 0) (lasting :
       let d : Moment E = record { ticket = 0; serving = 0; splits = 0; log = []; joined = [] } in
       let first : Fits a d 0 (newcomer a) = record {
         sees = ([], refl);
-        own = λ b at_b. (sym (Some-injective a b at_b), refl, refl);
-        worn = λ h. absurd (differ (sym h));
-        holds = λ h. absurd (differ (sym h));
+        own = λ b at_b. (sym (same_Some a b at_b), refl, refl);
+        worn = λ h. absurd (true≢false (sym h));
+        holds = λ h. absurd (true≢false (sym h));
         counts = λ _. refl;
         spent = λ h. absurd (live_spent refl h);
         heard = λ k l at_k. absurd (some-ne-none l (sym at_k));
@@ -117,13 +118,13 @@ module _ {T E L : Type 0} (stands : T → List (ℕ × E) → Type 0) (lasting :
             (at_set s.views id k left u t))
             (λ (e : right ≡ u). let Q : View T E → Type 0 = λ x. Fits a d k x in subst Q e (record {
               sees = fit.sees;
-              own = λ b at_b. (sym (Some-injective a b (sym live ∙ at_b)), no_entry, none_before (v.splits + 1) o.now.log v.seen no_entry fit.sees);
+              own = λ b at_b. (sym (same_Some a b (sym live ∙ at_b)), no_entry, none_before (v.splits + 1) o.now.log v.seen no_entry fit.sees);
               worn = fit.worn;
-              holds = λ h. absurd (differ (sym h));
+              holds = λ h. absurd (true≢false (sym h));
               counts = λ _. refl;
               spent = λ h. absurd (live_spent live h);
               heard = λ i l at_i. absurd (some-ne-none l (sym at_i));
-              first = λ h. absurd (differ (sym h));
+              first = λ h. absurd (true≢false (sym h));
             }))
             (at_snoc vs right u k at_k);
         tickets = λ f. omega (arith, sum_by-append (drawn f) vs (right ∷ []), sum_changed (drawn f) s.views id v left me, o.tickets f);
@@ -169,7 +170,7 @@ module _ {T E L : Type 0} (stands : T → List (ℕ × E) → Type 0) (lasting :
         sees = starts_longer log v.seen w.seen fit.sees fit'.sees;
         own = λ b at_b. let f = fit.own b at_b in (f.0, f.1, by-longer_left v.number log v.seen w.seen fit.sees fit'.sees (f.1 ∙ sym f.2) ∙ f.2);
         worn = λ h. ⊎_elim fit.worn fit'.worn (or_true v.worn w.worn h);
-        holds = λ h. absurd (differ (sym h ∙ out));
+        holds = λ h. absurd (true≢false (sym h ∙ out));
         counts = fit.counts;
         spent = fit.spent;
         heard = of_two (λ (l : List (ℕ × E)). StartsWith both.seen l) v.seen w.seen (longer_starts_left log v.seen w.seen fit.sees fit'.sees) (longer_starts_right log v.seen w.seen fit.sees fit'.sees);
@@ -178,12 +179,12 @@ module _ {T E L : Type 0} (stands : T → List (ℕ × E) → Type 0) (lasting :
       let spent_fit : (k : ℕ) → Fits a d k spent = λ k. record {
         sees = (log, refl);
         own = λ b at_b. absurd (live_spent at_b refl);
-        worn = λ h. absurd (differ (sym h));
-        holds = λ h. absurd (differ (sym h));
+        worn = λ h. absurd (true≢false (sym h));
+        holds = λ h. absurd (true≢false (sym h));
         counts = λ _. refl;
         spent = λ _. (refl, refl);
         heard = λ i l at_i. absurd (some-ne-none l (sym at_i));
-        first = λ h. absurd (differ (sym h));
+        first = λ h. absurd (true≢false (sym h));
       } in
       record {
         now = d;

@@ -2,6 +2,8 @@
 use Rattle.std.proofs.Common.{◌≡◌, ℕ, List, [], ◌∷◌, length, get_or, sym, refl, ap, ◌∙◌, subst, arith, Option, Some, None}
 use mathlib.Core.Option.{some, some-injective}
 use lib.ListN.{get_elem?}
+use Rattle.std.proofs.lemmas.Option.{same_Some}
+use Rattle.std.proofs.lemmas.List.{nil_from_length}
 use Rattle.atomic_table.specs.Seated.{TableId}
 use Rattle.atomic_table.specs.Table.{rest, Final, Seen}
 use Rattle.turn_cell.specs.Turns.{StartsWith, IsDue, Ran}
@@ -11,7 +13,6 @@ use Rattle.turn_cell.specs.SeatStates.{seat_state, Took, Closes, IsWhole}
 use Rattle.turn_cell.specs.inner.Words.{IsIdle, with_ticket, Entered}
 use Rattle.turn_cell.specs.declared.view.Terms.{Terms}
 use Rattle.turn_cell.specs.declared.view.View.{View}
-use Rattle.turn_cell.proofs.Facts.{Some-injective, none_of_length}
 use Rattle.turn_cell.proofs.Seating.{closes}
 
 module _ {T E L : Type 0} (stands : T → List (ℕ × E) → Type 0) (lasting : T → L) (a : Terms T) where
@@ -22,9 +23,9 @@ module _ {T E L : Type 0} (stands : T → List (ℕ × E) → Type 0) (lasting :
       let g = subst (λ (q : Sat T E). Gets stands lasting q n) same got in
       let log : List (ℕ × E) = g.1 in
       let slots : (0, Some g.0) ∷ before.1 ≡ (0, old) ∷ rest n.1 = sym (ap (λ (q : Sat T E). q.1) g.2) ∙ has in
-      let value : g.0 ≡ x = Some-injective g.0 x (ap (λ (l : List (ℕ × Option T)). (get_or l 0 (0, old)).1) slots ∙ is) in (
+      let value : g.0 ≡ x = same_Some g.0 x (ap (λ (l : List (ℕ × Option T)). (get_or l 0 (0, old)).1) slots ∙ is) in (
         log,
-        emptied ∙ ap (λ (q : Sat T E). (q.0, (0, None) ∷ rest q.1)) g.2 ∙ ap (λ (l : List (ℕ × Option T)). (holding before.0 log, (0, None) ∷ l)) (none_of_length before.1 nothing-out),
+        emptied ∙ ap (λ (q : Sat T E). (q.0, (0, None) ∷ rest q.1)) g.2 ∙ ap (λ (l : List (ℕ × Option T)). (holding before.0 log, (0, None) ∷ l)) (nil_from_length before.1 nothing-out),
         subst (λ (y : T). stands y log) value g.3,
         ap lasting (sym value) ∙ (g.4 a live).0,
         (g.4 a live).1,
@@ -77,7 +78,7 @@ module _ {T E L : Type 0} (stands : T → List (ℕ × E) → Type 0) (lasting :
   pub closed : (cell : TableId) (ws : List ℕ) (xs : List (Option T)) (id : ℕ) (m : Sat T E) (last : Option T) → Final (Seen (Kept stands lasting a) id m.0) ws xs
       → m.0.about ≡ Some a → IsIdle m → IsWhole (seat_state cell m.0) → get_elem? xs 0 ≡ some last → (x : T) × (last ≡ Some x) × Closes stands lasting a (seat_state cell m.0) x
   closed cell ws xs id m last final live idle all-joined taken =
-      let t = closes stands lasting a ws xs id m.0 final live all-joined.0 all-joined.1 (none_of_length m.0.tickets idle.1) idle.2 idle.3 in (
+      let t = closes stands lasting a ws xs id m.0 final live all-joined.0 all-joined.1 (nil_from_length m.0.tickets idle.1) idle.2 idle.3 in (
         t.0,
         some-injective last (Some t.0) (sym taken ∙ t.1),
         record { stands_now = t.2; lasts = t.3; worn = t.4 },

@@ -1,6 +1,6 @@
 -- What is answered on a connection on which one tile was asked for.
 use Rattle.std.proofs.Common.{◌≡◌, ◌⊎◌, inl, inr, ℕ, ◌==◌, cond, Bool, true, false, ◌&&◌, List, [], ◌∷◌, ◌++◌, Option, Some, None, option_map, unwrap_or, refl, sym, ap, subst, ◌∙◌, append-nil}
-use Rattle.std.proofs.lemmas.Bool.{eqb-true}
+use Rattle.std.proofs.lemmas.Bool.{eqb-true, and_parts}
 use Rattle.std.specs.Option.{is_some, option_eq}
 use Rattle.farm_history.specs.declared.asks.Spot.{Spot}
 use Rattle.farm_history.specs.declared.queues.Reply.{Reply}
@@ -18,11 +18,6 @@ use Rattle.http_handler.specs.ConnStates.{spot_at}
 use Rattle.http_handler.specs.Tiles.{ask_done, refusal, waiting_ask, fits_behind, fetched_behind, tile_rules}
 use Rattle.worked_client.proofs.Lists.{In, only_last, never_none}
 
-and_both : (b c : Bool) → (b && c) ≡ true → (b ≡ true) × (c ≡ true)
-and_both true true e = (refl, refl)
-and_both true false e = cc
-and_both false c e = cc
-
 same_map : (m n : Option ℕ) → option_eq (λ a b. a == b) m n ≡ true → m ≡ n
 same_map None None e = refl
 same_map None (Some n) e = cc
@@ -34,9 +29,9 @@ spot_of m z x y = record { map = m; z = z; x = x; y = y }
 
 same_spot : (s t : Spot) → (option_eq (λ m n. m == n) s.map t.map && (s.z == t.z && (s.x == t.x && s.y == t.y))) ≡ true → s ≡ t
 same_spot s t e =
-    let a = and_both (option_eq (λ m n. m == n) s.map t.map) (s.z == t.z && (s.x == t.x && s.y == t.y)) e in
-    let b = and_both (s.z == t.z) (s.x == t.x && s.y == t.y) a.1 in
-    let c = and_both (s.x == t.x) (s.y == t.y) b.1 in
+    let a = and_parts (option_eq (λ m n. m == n) s.map t.map) (s.z == t.z && (s.x == t.x && s.y == t.y)) e in
+    let b = and_parts (s.z == t.z) (s.x == t.x && s.y == t.y) a.1 in
+    let c = and_parts (s.x == t.x) (s.y == t.y) b.1 in
     ap (λ (m : Option ℕ). spot_of m s.z s.x s.y) (same_map s.map t.map a.0) ∙ ap (λ (z : ℕ). spot_of t.map z s.x s.y) (eqb-true s.z t.z b.0)
     ∙ ap (λ (x : ℕ). spot_of t.map t.z x s.y) (eqb-true s.x t.x c.0) ∙ ap (λ (y : ℕ). spot_of t.map t.z t.x y) (eqb-true s.y t.y c.1)
 

@@ -1,4 +1,4 @@
-use Rattle.std.proofs.Common.{◌≡◌, ◌+◌, ◌<◌, true, false, length, is_some, refl, sym, ap, ◌∙◌, arith, rules}
+use Rattle.std.proofs.Common.{◌+◌, ◌<◌, true, false, length, is_some, refl, sym, ap, ◌∙◌, arith, rules, true≢false}
 use Rattle.expiry_lists.proofs.Placing.{some_at}
 use Rattle.expiry_lists.proofs.Settling.{quiet_more, sum_more, sum_few, quieted_long, walks_settled}
 use Rattle.expiry_lists.proofs.nodes.settle_all.Goals as goal
@@ -22,11 +22,8 @@ loop-i-preserved c = elim c.match-at.branch [
   })
   | in_default w ↦ (
       let small : c.loop-i.i < length c.loop-i.nodes.entries = omega (arith, c.loop-i-test.true, c.len-i-end.ensures.len, ap length c.loop-i.invariant.done, quieted_long c.args.nodes.now.entries c.loop-i.i) in
-      absurd (nothing (sym (some_at c.loop-i.nodes.entries c.loop-i.i small) ∙ ap is_some (sym c.at.ensures ∙ w.in_default.is))))
+      absurd (true≢false (sym (some_at c.loop-i.nodes.entries c.loop-i.i small) ∙ ap is_some (sym c.at.ensures ∙ w.in_default.is))))
 ]
-  where
-    nothing : true ≡ false → ⊥
-    nothing h = cc
 
 pub returns : goal.returns
 returns c = record {

@@ -1,13 +1,14 @@
 use Rattle.std.proofs.Common.{◌≡◌, Err, ap}
+use Rattle.std.proofs.lemmas.Result.{IfOk-weaker}
 use Rattle.clap.specs.Words.{rows_of, found_of}
 use Rattle.farm_words.specs.declared.command.WordsFault.{WordsFault}
 use Rattle.farm_words.specs.declared.command.WordsFault.TheVariants.{Refused}
-use Rattle.farm_words.proofs.PlainWords.{values_known, values_refused, if_ok}
+use Rattle.farm_words.proofs.PlainWords.{values_known, values_refused}
 use Rattle.farm_words.proofs.reading.values.Goals as goal
 
 pub returns-in-Ok-clause-ok : goal.returns-in-Ok-clause-ok
 returns-in-Ok-clause-ok c =
-    if_ok c.gathered.result _ _
+    IfOk-weaker c.gathered.result _ _
     (λ v given. values_known _ (rows_of (found_of c.in-Ok.matches)) _ c.in-Ok.ensures.ok.0 c.in-Ok.ensures.ok.1 given)
     c.gathered.ensures.ok
 

@@ -1,15 +1,12 @@
 -- The old features are looked for in the order of their ids, and then come those that are put.
-use Rattle.std.proofs.Common.{◌≡◌, ◌∙◌, ℕ, List, ◌++◌, Result, Ok, Err, sym, ap, subst}
-use Rattle.std.specs.Prelude.{OnOk, IsPermutation}
+use Rattle.std.proofs.Common.{◌≡◌, ◌∙◌, ℕ, List, ◌++◌, sym, ap, subst}
+use Rattle.std.specs.Prelude.{IsPermutation}
+use Rattle.std.proofs.lemmas.Result.{on_ok_weaker}
 use Rattle.plain_shapes.specs.Features.{Feature}
 use Rattle.plain_shapes.specs.Data.{Change, ids_of}
 use Rattle.reach_box.specs.inner.Lookups.{Adds}
 use Rattle.reach_box.proofs.Adding.{adds_met}
 use Rattle.reach_box.proofs.boxes.add_changed.Goals as goal
-
-on_ok : {X E A B : Type 0} (r : Result X E) → (A → B) → OnOk r A → OnOk r B
-on_ok (Ok x) so a = so a
-on_ok (Err e) so a = tt
 
 pub returns : goal.returns
 returns c =
@@ -21,7 +18,7 @@ returns c =
     let named : IsPermutation (change.remove ++ ids_of change.put) c.as_slice-2.result.now =
     subst (λ (fs : List Feature). IsPermutation (change.remove ++ ids_of fs) c.as_slice-2.result.now) puts
     (subst (λ (xs : List ℕ). IsPermutation (xs ++ ids_of c.as_slice-puts.result.now) c.as_slice-2.result.now) removed ids) in
-    on_ok c.add_new.result
+    on_ok_weaker c.add_new.result
     (λ new. adds_met c.args.layer.now.features change c.as_slice-2.result.now c.args.boxes.now.items c.add_by_ids.new.boxes.items c.add_new.new.boxes.items named c.in_ok-add_by_ids.ensures
     (subst (λ (fs : List Feature). Adds fs c.add_by_ids.new.boxes.items c.add_new.new.boxes.items) puts new))
     c.add_new.ensures

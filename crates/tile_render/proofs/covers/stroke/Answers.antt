@@ -1,9 +1,10 @@
 use Rattle.std.proofs.Common.{◌∙◌, ap, sym}
+use Rattle.std.proofs.lemmas.Result.{on_ok_weaker}
 use Rattle.plain_drawing.specs.declared.style.Symbolizer.TheVariants as paint
 use Rattle.plain_shapes.specs.Strokes.{on_stroke, on_outline, half_of}
 use Rattle.plain_drawing.specs.Drawing.{covers}
 use Rattle.plain_image.proofs.Marking.{becomes_none, becomes_same, marks_none, marks_same}
-use Rattle.tile_render.proofs.Steps.{on_ok, in_both, ok_of}
+use Rattle.tile_render.proofs.Steps.{in_both, ok_of}
 use Rattle.tile_render.proofs.covers.stroke.Goals as goal
 
 pub returns-in-Points-clause-drawn : goal.returns-in-Points-clause-drawn
@@ -16,7 +17,7 @@ returns-in-Points-clause-shows g c = becomes_none g.K.Surface.shows _ c.args.sur
 
 pub returns-in-Lines-clause-drawn : goal.returns-in-Lines-clause-drawn
 returns-in-Lines-clause-drawn g c colour opacity =
-    on_ok c.stroke_lines.result (λ marked.
+    on_ok_weaker c.stroke_lines.result (λ marked.
     marks_same g.K.Surface.shows (on_stroke c.as_slice.result.now c.half_of-half.result c.args.cap)
     (λ p. covers c.args.w.pixel c.args.feature.now.geometry p (paint.Line colour c.args.width opacity c.args.cap)) c.args.w c.args.surface.now c.stroke_lines.new.mask
     (λ p. sym (ap (λ s. covers c.args.w.pixel s p (paint.Line colour c.args.width opacity c.args.cap)) (sym c.geometry.ensures.value ∙ c.in-Lines.is)

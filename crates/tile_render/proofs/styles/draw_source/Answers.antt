@@ -1,4 +1,5 @@
 use Rattle.std.proofs.Common.{◌∙◌, ap, sym, subst, List, fold, map}
+use Rattle.std.proofs.lemmas.Result.{on_ok_weaker}
 use Rattle.plain_world.specs.World.{IsWindow}
 use Rattle.plain_shapes.specs.Features.{Feature}
 use Rattle.plain_shapes.specs.Images.{Pixels}
@@ -7,14 +8,13 @@ use Rattle.plain_drawing.specs.inner.Pictures.{with_item}
 use Rattle.data_versions.specs.Near.{all_near}
 use Rattle.tile_render.specs.inner.Nearby.{Nearby}
 use Rattle.tile_render.proofs.Skipping.{near_drawn}
-use Rattle.tile_render.proofs.Steps.{on_ok}
 use Rattle.tile_render.proofs.styles.draw_source.Goals as goal
 
 pub returns-in-Some-clause-drawn : goal.returns-in-Some-clause-drawn
 returns-in-Some-clause-drawn c =
     let w = c.args.canvas.now.window in
     let draw : List Feature → Pixels = λ fs. fold (with_item w c.args.scaled.now.denominator c.args.scaled.now.style) c.args.canvas.now.image (map feature fs) in
-    on_ok c.draw_listed.result
+    on_ok_weaker c.draw_listed.result
     (λ e. e ∙ ap draw (ap (map (λ f. f.now)) c.as_slice.ensures.value ∙ c.in-Some.ensures c.if-layer.true
     ∙ ap (λ (n : Nearby). all_near (features_of n.layers c.args.source.now.name.now) n.around) c.keep.ensures
     ∙ ap (λ fs. all_near fs c.args.nearby.now.around) (sym c.requires.source) ∙ ap (all_near c.args.source.now.features) c.requires.near)

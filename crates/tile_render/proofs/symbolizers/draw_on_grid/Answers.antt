@@ -1,7 +1,7 @@
 use Rattle.std.proofs.Common.{ap}
+use Rattle.std.proofs.lemmas.Result.{on_ok_weaker}
 use Rattle.plain_drawing.specs.Drawing.{raster, symbolizer_at}
 use Rattle.tile_render.proofs.Painted.{untouched, grid_step}
-use Rattle.tile_render.proofs.Steps.{on_ok}
 use Rattle.tile_render.proofs.symbolizers.draw_on_grid.Goals as goal
 
 pub returns-in-Polygon-clause-drawn : goal.returns-in-Polygon-clause-drawn
@@ -21,6 +21,6 @@ returns-in-Markers-clause-drawn c =
 
 pub returns-in-Raster-clause-drawn : goal.returns-in-Raster-clause-drawn
 returns-in-Raster-clause-drawn c =
-    on_ok c.blend_grid.result
+    on_ok_weaker c.blend_grid.result
     (grid_step c.args.canvas.now.window c.args.grid.now c.args.canvas.now.image c.blend_grid.new.self.image c.in-Raster.opacity c.args.symbolizer c.in-Raster.is)
     c.blend_grid.ensures.blended

@@ -1,6 +1,6 @@
 -- What is kept is what is saved of each history that the farm stands for.
-use Rattle.std.proofs.Common.{List, Bool, Result, Ok, Err}
-use Rattle.std.specs.Prelude.{IfOk}
+use Rattle.std.proofs.Common.{List, Bool}
+use Rattle.std.proofs.lemmas.Result.{IfOk-weaker}
 use Rattle.farm_history.specs.Entries.{Entry}
 use Rattle.farm_history.specs.Replays.{Saving, IsSaved}
 use Rattle.farm_plan.specs.Drawings.{plan_of}
@@ -10,16 +10,12 @@ use Rattle.farm_core.specs.inner.Saves.{IsSavingOf}
 use Rattle.farm_core.proofs.Savable.{kept_saved, kept_sound}
 use Rattle.farm_core.proofs.farm.Farm.saved.Goals as goal
 
-where_ok : {A E : Type 0} (r : Result A E) (P Q : A → Type 0) → ((a : A) → P a → Q a) → IfOk r P → IfOk r Q
-where_ok (Ok a) P Q f h = f a h
-where_ok (Err e) P Q f h = tt
-
 pub returns : goal.returns
 returns g c = record {
   saved =
-      where_ok c.kept.result (IsSavingOf c.args.self.now) (λ (s : Saving). (told : Bool) (h : List Entry) → StandsFor g.D.TileStore.state told c.args.self.now h → IsSaved (plan_of c.args.self.now.plan) h s)
+      IfOk-weaker c.kept.result (IsSavingOf c.args.self.now) (λ (s : Saving). (told : Bool) (h : List Entry) → StandsFor g.D.TileStore.state told c.args.self.now h → IsSaved (plan_of c.args.self.now.plan) h s)
       (λ s k told h stands. kept_saved g.D.TileStore.state told c.args.self.now h s k stands) c.kept.ensures;
   sound =
-      where_ok c.kept.result (IsSavingOf c.args.self.now) (λ (s : Saving). (told : Bool) (h : List Entry) → StandsFor g.D.TileStore.state told c.args.self.now h → IsSaving s)
+      IfOk-weaker c.kept.result (IsSavingOf c.args.self.now) (λ (s : Saving). (told : Bool) (h : List Entry) → StandsFor g.D.TileStore.state told c.args.self.now h → IsSaving s)
       (λ s k told h stands. kept_sound g.D.TileStore.state told c.args.self.now h s k stands) c.kept.ensures;
 }

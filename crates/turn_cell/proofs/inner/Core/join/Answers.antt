@@ -1,5 +1,5 @@
 use Rattle.std.proofs.Common.{rules, ap}
-use Rattle.turn_cell.proofs.Facts.{none_of_length}
+use Rattle.std.proofs.lemmas.List.{nil_from_length}
 use Rattle.turn_cell.proofs.Keeps.{learns}
 use Rattle.turn_cell.proofs.Seating.{joins_kept}
 use Rattle.turn_cell.proofs.Turning.{seen_both}
@@ -9,10 +9,10 @@ pub join_seat-requires : goal.join_seat-requires
 join_seat-requires g c = let idle = c.requires.settled.0 in let idle' = c.requires.settled.2 in (
   c.requires.into.0,
   c.requires.ended.0,
-  none_of_length _ idle'.0,
+  nil_from_length _ idle'.0,
   search rules,
   joins_kept g.T.StandsFor.stands g.T.StandsFor.lasting c.args.self.now.table.shared.key c.args.into.now.id c.args.into.now.me.0 c.args.ended.id c.args.ended.me.0
-      c.requires.into.1 c.requires.ended.1 c.requires.first idle.2 (none_of_length _ idle'.1) idle'.2 idle'.3,
+      c.requires.into.1 c.requires.ended.1 c.requires.first idle.2 (nil_from_length _ idle'.1) idle'.2 idle'.3,
 )
 
 pub load-requires : goal.load-requires
