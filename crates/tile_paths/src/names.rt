@@ -14,11 +14,7 @@ pub fn is_name(text: &str) -> bool
 fn are_name_bytes(bytes: &[u8]) -> bool
     ensures { result ≡ list_all spec.is_name_byte bytes.now }
 {
-    bytes.iter().all(|b| is_name_byte(*b))
-}
-
-fn is_name_byte(b: u8) -> bool
-    ensures { result ≡ spec.is_name_byte b }
-{
-    matches!(b, b'a'..=b'z' | b'0'..=b'9' | b'_' | b'-')
+    bytes
+        .iter()
+        .all(|b| matches!(*b, b'a'..=b'z' | b'0'..=b'9' | b'_' | b'-'))
 }
