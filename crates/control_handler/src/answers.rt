@@ -10,7 +10,7 @@ ghost use Rattle.control_handler.specs.inner.Doing.{Says, Answers};
 use farm_base::{ApplyFault, NoMemory, Text};
 use farm_history::{Renewed, Restyled, Tally, Updated};
 use front_loop::{Disposition, Reason};
-use script_answers::{expire_line, renew_line, restyle_line, tally_line, update_line};
+use script_answers::{expire_line, renew_line, tally_line, update_line};
 use std::alloc::Global;
 
 /// Says a text, if there is memory for it.
@@ -122,9 +122,12 @@ fn say_made(response: &mut Vec<u8>, text: Result<Text, NoMemory>) -> Disposition
 pub fn say_restyle(alloc: Global, answer: Restyled, response: &mut Vec<u8>) -> Disposition
     ensures { Says (spec.restyle_text answer) response.old.items response.new.items result }
 {
-    match answer {
-        Restyled::Styled(count) => say_made(response, restyle_line(alloc, Restyled::Styled(count))),
-        Restyled::NoRestyle => say(response, "no restyle\n"),
+    let Restyled::Styled(count) = answer else {
+        return say(response, "no restyle\n");
+    };
+    match format!(in alloc; "styled {count}\n") {
+        Ok(line) => say(response, line.as_str()),
+        Err(_) => Disposition::Leaves(Reason::Starved),
     }
 }
 

@@ -9,7 +9,7 @@ ghost use Rattle.expiry_lists.specs.inner.Nodes.{has_bit};
 ghost use Rattle.expiry_lists.specs.Marks.{shown_key, mark_of, dirtied_marks, clean_marks, is_of_map, is_near_boxes, is_near_bits, is_in_box, rectangle, clean_version, InBox};
 
 use crate::keeping::{clean_entries, sort_by_key};
-use crate::nodes::{mark_at, mark_one_dirty, settle_all};
+use crate::nodes::{mark_one_dirty, settle_all};
 use crate::rectangles::mark_box_dirty;
 use crate::table::Nodes;
 use crate::waking::{drop_mark, own, put_mark, wake};
@@ -75,8 +75,7 @@ impl Marks {
     pub fn of(&self, key: Key) -> Option<Mark>
         ensures { result ≡ mark_of self.now.shown key }
     {
-        let _count = self.nodes.len();
-        mark_at(&self.nodes, key)
+        self.nodes.mark_of(key)
     }
 
     /// Shows a key with that version, clean or dirty, in place of what was shown of it. It takes no memory: a

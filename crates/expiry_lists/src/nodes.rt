@@ -4,7 +4,7 @@ ghost use Rattle.std.specs.Map.{keys_of};
 ghost use Rattle.farm_history.specs.Plans.{same_key};
 ghost use Rattle.expiry_lists.specs.Marks.{touched_by};
 ghost use Rattle.farm_history.specs.declared.keys.Key.{Key};
-ghost use Rattle.expiry_lists.specs.inner.Nodes.{at_bits, bit_of, has_bit, has_spot, is_clean, is_clean_at, live_word, lives_at, node_of, node_mark, own_word, parent, place_of, spot_of, IsTree, Quieter};
+ghost use Rattle.expiry_lists.specs.inner.Nodes.{at_bits, bit_of, has_bit, has_spot, is_clean, is_clean_at, live_word, lives_at, own_word, parent, place_of, spot_of, IsTree, Quieter};
 ghost use Rattle.expiry_lists.specs.inner.Walks.{Walks};
 
 use crate::table::Nodes;
@@ -32,13 +32,6 @@ pub fn is_live(nodes: &Nodes, place: Key, mask: u64) -> bool
         Some(spot) => spot.live & mask != 0,
         None => false,
     }
-}
-
-/// The mark of a key.
-pub fn mark_at(nodes: &Nodes, key: Key) -> Option<Mark>
-    ensures { result ≡ node_mark (node_of nodes.now.entries key) }
-{
-    nodes.get(key)?.mark
 }
 
 /// Makes the mark of a key dirty, and counts what was clean: 0 or 1.

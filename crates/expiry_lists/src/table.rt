@@ -5,12 +5,12 @@ ghost use Rattle.std.specs.Map.{keys_of};
 ghost use Rattle.std.specs.Map.Iter.{ShowsInOrder, deref_pair};
 ghost use Rattle.indexmap.specs.IndexMap.{set_value_at};
 ghost use Rattle.farm_history.specs.Plans.{same_key};
-ghost use Rattle.expiry_lists.specs.inner.Nodes.{node_of, spot_of};
+ghost use Rattle.expiry_lists.specs.inner.Nodes.{node_mark, node_of, spot_of};
 
 use crate::hashing::KeyHashing;
 use crate::nodes::{Node, Spot};
 use farm_base::NoMemory;
-use farm_history::Key;
+use farm_history::{Key, Mark};
 use indexmap::IndexMap;
 use indexmap::map::Iter;
 use std::alloc::Global;
@@ -107,11 +107,13 @@ impl Nodes {
         Some((place, *node))
     }
 
-    /// The node of a key.
-    pub fn get(&self, key: Key) -> Option<Node>
-        ensures { result ≡ node_of self.now.entries key }
+    /// The mark of a key; no two nodes have one key.
+    pub fn mark_of(&self, key: Key) -> Option<Mark>
+        ensures mark { result ≡ node_mark (node_of self.now.entries key) }
+        ensures unique { IsDistinct same_key (keys_of self.now.entries) }
     {
-        self.map.get(&key).copied()
+        let _count = self.map.len();
+        self.map.get(&key)?.mark
     }
 
     /// Puts another node at a place, where there is one.

@@ -5,7 +5,7 @@ ghost use Rattle.farm_history.specs.Plans.{is_dirty_command, is_in, is_lifting, 
 ghost use Rattle.farm_history.specs.declared.queues.Queue.{Queue};
 ghost use Rattle.farm_history.specs.inner.Asks.{answer_of_waiting};
 ghost use Rattle.farm_history.specs.Seen.{is_clean_mark};
-ghost use Rattle.render_queues.specs.Tables.{open_count, open_of};
+ghost use Rattle.render_queues.specs.Tables.{AreSound, open_count, open_of};
 ghost use Rattle.farm_core.specs.inner.Asks.{Dirtied, DirtiesKey, Needs, answer_at, noted_tables, rendered_at, rendered_counts};
 ghost use Rattle.farm_history.specs.Entries.{Ask, Entry};
 ghost use Rattle.farm_history.specs.Past.{number_in};
@@ -94,6 +94,7 @@ fn place_of(queues: &Queues, key: Key) -> Place
     ensures waits { result.waits ≡ waits_at queues.now key }
     ensures in_dirty { result.in_dirty ≡ is_in key queues.now.lines.dirty.keys }
     ensures in_bulk { result.in_bulk ≡ is_in key queues.now.lines.bulk.keys }
+    ensures sound { AreSound queues.now }
 {
     queues.law_sound();
     match queues.find(key) {
@@ -199,7 +200,8 @@ impl<D> Farm<D> {
     }
 
     fn answer(&self, conn: Conn, cmd: Cmd, key: Key) -> AskAnswer
-        ensures { result ≡ answer_at self.now conn cmd key }
+        ensures answer { result ≡ answer_at self.now conn cmd key }
+        ensures needs { Needs self.now.queues (own_queue cmd) key result }
     {
         if is_clean(self.marks.of(key)) {
             return AskAnswer::Done;
@@ -229,16 +231,6 @@ impl<D> Farm<D> {
 }
 
 impl<D> Farm<D> {
-    fn note(&mut self, conn: Conn, cmd: Cmd, key: Key, answer: AskAnswer)
-        requires key { IsKeyOf self.old.plan key }
-        requires needs { Needs self.old.queues (own_queue cmd) key answer }
-        ensures { self.new ≡ record self.old {
-          queues = asked_tables self.old.queues (own_queue cmd) key conn answer;
-        } }
-    {
-        note_answer(&mut self.queues, own_queue(cmd), key, conn, answer);
-    }
-
     fn count_ask(&mut self, answer: AskAnswer)
         requires numbers { self.old.counts.numbers < self.old.counts.turns }
         requires asks { self.old.counts.asks < self.old.counts.turns }
@@ -277,7 +269,6 @@ impl<D> Farm<D> {
         ensures answer { result ≡ rendered_at self.now conn cmd served }
         ensures needs { IfSome served (λ key. Needs self.now.queues (own_queue cmd) key result) }
     {
-        self.queues.law_sound();
         if self.counts.stopped {
             return AskAnswer::NotDone(Why::Stopping);
         }
@@ -296,7 +287,7 @@ impl<D> Farm<D> {
         } }
     {
         if let Some(key) = served {
-            self.note(conn, cmd, key, answer);
+            note_answer(&mut self.queues, own_queue(cmd), key, conn, answer);
         }
     }
 

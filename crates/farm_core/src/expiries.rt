@@ -1,5 +1,5 @@
 //! Expiries and changes of style: what they touch.
-ghost use Rattle.std.specs.Prelude.{◌≡◌, ◌<◌, ◌^◌, Bool, List, ◌∷◌, length, slice_get, slice_set, option_map, Some, IfSome};
+ghost use Rattle.std.specs.Prelude.{◌≡◌, ◌<◌, ◌^◌, Bool, List, ◌∷◌, length, slice_get, option_map, IfSome};
 ghost use Rattle.farm_history.specs.Entries.{Entry, Expire, Restyle};
 ghost use Rattle.farm_core.specs.Answers.{Lasts};
 ghost use Rattle.farm_refinement.specs.Stands.{StandsFor};
@@ -32,14 +32,6 @@ impl<D> Farm<D> {
 }
 
 impl<D> Farm<D> {
-    fn give_style(&mut self, map: u32, number: u32)
-        requires { map < length self.old.plan.maps }
-        ensures { self.new
-            ≡ record self.old { styled = slice_set self.old.styled map (Some number) } }
-    {
-        self.styled[map as usize] = Some(number);
-    }
-
     fn styled_map(&self, number: u32) -> Option<u32>
         ensures map { result ≡ option_map (λ r. r.map) (slice_get self.now.plan.restyles number) }
         ensures in_table { IfSome result (λ map. map < length self.now.plan.maps) }
@@ -79,7 +71,7 @@ impl<D: TileStore> Farm<D> {
         self.count_turn();
         match self.styled_map(number) {
             Some(map) => {
-                self.give_style(map, number);
+                self.styled[map as usize] = Some(number);
                 Restyled::Styled(self.mark_map_dirty(map))
             }
             None => Restyled::NoRestyle,

@@ -9,7 +9,7 @@ ghost use Rattle.farm_refinement.specs.Stands.{StandsFor};
 ghost use Rattle.plain_world.specs.World.{IsTile, meta_of, index_place};
 ghost use Rattle.farm_plan.specs.Spots.{IsKeyOf};
 ghost use Rattle.farm_core.specs.inner.Effects.{Fetches, refused_by};
-ghost use Rattle.farm_refinement.specs.Reads.{ReadsTile, fetched_by};
+ghost use Rattle.farm_refinement.specs.Reads.{ReadsTile};
 ghost use Rattle.farm_refinement.specs.inner.Events.{look_at, looked_by};
 
 use crate::farm::Farm;
@@ -65,21 +65,6 @@ fn read_tile<D: TileStore>(
     }
 }
 
-fn fetched_by(mark: Mark, read: Result<Bytes, Fetched>) -> Fetched
-    ensures { result ≡ fetched_by mark read }
-{
-    match read {
-        Ok(bytes) => {
-            if mark.clean {
-                Fetched::Clean(mark.version, bytes)
-            } else {
-                Fetched::Dirty(mark.version, bytes)
-            }
-        }
-        Err(answer) => answer,
-    }
-}
-
 fn looked_by(mark: Option<Mark>) -> Looked
     ensures { result ≡ looked_by mark }
 {
@@ -114,8 +99,11 @@ impl<D: TileStore> Farm<D> {
         ensures { Fetches D.state self.old self.new key (index_place tile) mark result }
     {
         let path = self.own.setup().path(key);
-        let read = read_tile(alloc, &mut self.store, path.as_str(), key.meta, tile);
-        fetched_by(mark, read)
+        match read_tile(alloc, &mut self.store, path.as_str(), key.meta, tile) {
+            Ok(bytes) if mark.clean => Fetched::Clean(mark.version, bytes),
+            Ok(bytes) => Fetched::Dirty(mark.version, bytes),
+            Err(answer) => answer,
+        }
     }
 }
 

@@ -4,21 +4,13 @@ ghost use Rattle.std.specs.Prelude.{◌≡◌, ◌<◌, ◌≤◌, ◌^◌, Bool
 ghost use Rattle.farm_history.specs.Entries.{Entry, Collect, Leave, Stop, Tally as Counted};
 ghost use Rattle.farm_core.specs.Answers.{Lasts};
 ghost use Rattle.farm_refinement.specs.Stands.{StandsFor};
-ghost use Rattle.render_queues.specs.Tables.{after_leave, open_of};
-ghost use Rattle.farm_core.specs.inner.Effects.{Collects, TakesFirst};
+ghost use Rattle.farm_core.specs.inner.Effects.{Collects};
 ghost use Rattle.farm_refinement.specs.inner.Events.{collected_by, tally_of};
 
 use crate::asks::one_more;
 use crate::farm::Farm;
 use farm_plan::{Collected, Conn, Outcome, Reply, Tally};
-use render_queues::Queues;
 use tile_store::TileStore;
-
-fn take_first(queues: &mut Queues, front: u32) -> Option<Reply>
-    ensures { TakesFirst queues.old queues.new front result }
-{
-    queues.collect(front)
-}
 
 fn is_done(reply: Reply) -> bool
     ensures { result ≡ is_done reply.outcome }
@@ -30,12 +22,13 @@ fn is_done(reply: Reply) -> bool
 }
 
 impl<D> Farm<D> {
+    #[tactic(auto, using(crate::proofs::Replied::takes_first))]
     fn take_reply(&mut self, front: u32) -> Option<Reply>
         requires done { self.old.counts.done < self.old.counts.turns }
         requires turns { self.old.counts.turns ≤ 2 ^ 63 }
         ensures { Collects self.old self.new front result }
     {
-        let reply = take_first(&mut self.queues, front)?;
+        let reply = self.queues.collect(front)?;
         self.counts.done = one_more(self.counts.done, is_done(reply));
         Some(reply)
     }
@@ -53,13 +46,6 @@ impl<D> Farm<D> {
 }
 
 impl<D> Farm<D> {
-    fn drop_asks(&mut self, conn: Conn) -> u32
-        ensures count { result ≡ open_of self.old.queues conn }
-        ensures farm { self.new ≡ record self.old { queues = after_leave self.old.queues conn } }
-    {
-        self.queues.leave(conn)
-    }
-
     fn note_stop(&mut self)
         ensures { self.new
             ≡ record self.old { counts = record self.old.counts { stopped = true } } }
@@ -108,7 +94,7 @@ impl<D: TileStore> Farm<D> {
         ensures store { self.new.store ≡ self.old.store }
     {
         self.count_turn();
-        self.drop_asks(conn)
+        self.queues.leave(conn)
     }
 
     /// Stops the farm for good: asks are NotDone, claims Stopped. Drawings under way may still end, and what

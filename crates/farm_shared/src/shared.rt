@@ -1,6 +1,5 @@
 //! The shared farm and its seats.
-ghost use Rattle.std.specs.Prelude.{◌≡◌, ◌<◌, Bool, true, [], length, map, position, IfErr, IfOk, IsOkAnd, MatchResult};
-ghost use Rattle.std.specs.Str.{bytes_eq};
+ghost use Rattle.std.specs.Prelude.{◌≡◌, ◌<◌, Bool, true, [], length, map, IfErr, IfOk, IsOkAnd, MatchResult};
 ghost use Rattle.farm_base.specs.Limits.{most_turns};
 ghost use Rattle.farm_refinement.specs.Stands.{StandsFor};
 ghost use Rattle.farm_shared.specs.inner.Turns.{AreNames};
@@ -84,12 +83,6 @@ fn names_of<D: TileStore>(alloc: Global, farm: &Farm<D>) -> Result<Vec<Text>, No
     Ok(names)
 }
 
-fn place_in(names: &[Text], name: &[u8]) -> Option<usize>
-    ensures { result ≡ position (λ n. bytes_eq n name.now) names.now }
-{
-    names.iter().position(|n| n.as_str().as_bytes() == name)
-}
-
 impl<D: TileStore> SharedFarm<D> {
     /// Shares a farm, and gives its first seat, which has the number 0. Where memory is wanting the farm comes
     /// back.
@@ -125,7 +118,8 @@ impl<D: TileStore> SharedFarm<D> {
     pub fn map_of(&self, name: &[u8]) -> Option<u32>
         ensures { result ≡ maps_of self.now name.now }
     {
-        let place = place_in(self.names.texts.as_slice(), name)?;
+        let names = self.names.texts.as_slice();
+        let place = names.iter().position(|n| n.as_str().as_bytes() == name)?;
         Some(place as u32)
     }
 

@@ -1,5 +1,6 @@
 -- Offers: one session as its bytes are offered, and all else.
 use Rattle.std.proofs.Common.{◌≡◌, ◌==◌, ◌<◌, ◌≤◌, ◌+◌, ℕ, zero, suc, Bool, true, false, not, ◌&&◌, ◌||◌, cond, List, [], ◌∷◌, ◌++◌, length, set, take, drop, Option, Some, None, option_map, IfSome, Ok, Err, refl, sym, ap, subst, ◌∙◌, arith}
+use Rattle.std.proofs.lemmas.Bool.Decides.{nat_tests}
 use Rattle.std.specs.Prelude.{nat_le, ok_or, unwrap_or}
 use Rattle.std.specs.Option.{is_none}
 use Rattle.std.proofs.lemmas.Bool.{le-leb, lt-leb, and_from}
@@ -489,6 +490,15 @@ offered_rest c box box' was is h z o =
 pub positive : (n : ℕ) → false ≡ (n == 0) → 0 < n
 positive zero h = clash (sym h)
 positive (suc n) h = omega arith
+
+-- whether bytes are left, by whether there are none
+pub all_given : (xs : List ℕ) → true ≡ (length xs == 0) → part_or_all xs ≡ gave.All
+all_given [] e = refl
+all_given (x ∷ xs) e = let some : (suc (length xs) == 0) ≡ false = grind (arith, nat_tests) in clash (e ∙ some)
+
+pub part_given : (xs : List ℕ) → false ≡ (length xs == 0) → part_or_all xs ≡ gave.Part
+part_given [] e = clash (sym e)
+part_given (x ∷ xs) e = refl
 
 take_whole : {X : Type 0} → (xs : List X) (n : ℕ) → length xs ≤ n → take n xs ≡ xs
 take_whole [] zero h = refl

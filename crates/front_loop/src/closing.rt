@@ -1,11 +1,9 @@
 //! Connections are left.
-ghost use Rattle.std.specs.Prelude.{◌≡◌, ◌+◌, ◌-◌, ◌^◌, true, length, min, position, OnErr, OnOk, IfSome, IfNone};
+ghost use Rattle.std.specs.Prelude.{◌≡◌, ◌+◌, ◌-◌, ◌^◌, true, length, min, OnErr, OnOk, IfSome, IfNone};
 ghost use Rattle.farm_history.specs.Lists.{Each};
 ghost use Rattle.front_loop.specs.Calls.{SameSeat};
 ghost use Rattle.front_loop.specs.Front.{rules_in};
 ghost use Rattle.front_loop.specs.Rounds.{with_starved};
-ghost use Rattle.front_loop.specs.declared.sessions.Session.{Session};
-ghost use Rattle.front_loop.specs.inner.Sessions as spec;
 ghost use Rattle.front_loop.specs.inner.Sessions.{is_up, IsLeaving, StaysOn};
 ghost use Rattle.front_loop.specs.declared.dispositions.Disposition.TheVariants as disposition;
 ghost use Rattle.front_loop.specs.inner.Stages.{Shuts};
@@ -23,18 +21,16 @@ use farm_history::Conn;
 use port_events::Ports;
 use std::sync::Wait;
 
-fn first_leaving<T>(sessions: &[Session<T>]) -> Option<usize>
-    ensures { result ≡ position (λ (s : Session T). spec.leaves s.disposition) sessions.now }
-{
-    sessions.iter().position(|session| matches!(session.disposition, Disposition::Leaves(_)))
-}
-
 // A session that leaves: its place, its connection, and why.
 fn leaving<T>(sessions: &[Session<T>]) -> Option<(usize, u32, Reason)>
     ensures some { IfSome result (λ p. IsLeaving sessions.now p.0 p.1 p.2) }
     ensures none { IfNone result (Each StaysOn sessions.now) }
 {
-    match first_leaving(sessions) {
+    let first = sessions.iter().position(|session| matches!(
+        session.disposition,
+        Disposition::Leaves(_)
+    ));
+    match first {
         Some(place) => match sessions[place].disposition {
             Disposition::Stays => unreachable!(),
             Disposition::Leaves(why) => Some((place, sessions[place].conn, why)),

@@ -2,7 +2,7 @@
 ghost use Rattle.std.specs.Prelude.{◌≡◌, ◌≤◌, true};
 ghost use Rattle.front_loop.specs.Front.{rules_in};
 ghost use Rattle.front_loop.specs.inner.Sessions.{is_up};
-ghost use Rattle.front_loop.specs.inner.Stages.{Gives, OffersOne, disposition_after, part_or_all};
+ghost use Rattle.front_loop.specs.inner.Stages.{Gives, OffersOne, disposition_after};
 ghost use Rattle.front_loop.specs.inner.Moments.{at, MayOffer, OffersAll};
 ghost use Rattle.port_events.specs.Boxes.{HasRest, rest_in};
 ghost use Rattle.port_events.specs.Told.{IsOpen};
@@ -41,20 +41,15 @@ fn give<P: Ports>(outbox: &mut Outbox, conn: u32, ports: &mut P) -> Gave
         return Gave::Nothing;
     }
     match outbox.offer(conn, ports) {
-        Ok(()) => gave_by(outbox, conn),
+        Ok(()) => {
+            if outbox.rest(conn).is_empty() {
+                Gave::All
+            } else {
+                Gave::Part
+            }
+        }
         Err(SendFault::Failed) => Gave::Failed,
         Err(SendFault::NoMemory) => Gave::NoMemory,
-    }
-}
-
-fn gave_by(outbox: &Outbox, conn: u32) -> Gave
-    requires { HasRest outbox.now conn }
-    ensures { result ≡ part_or_all (rest_in outbox.now conn) }
-{
-    if outbox.rest(conn).is_empty() {
-        Gave::All
-    } else {
-        Gave::Part
     }
 }
 

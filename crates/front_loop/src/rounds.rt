@@ -6,7 +6,7 @@ ghost use Rattle.farm_base.specs.Outside.{Counted};
 ghost use Rattle.port_events.specs.Boxes.{as_rest};
 ghost use Rattle.port_events.specs.declared.events.PortEvent.TheVariants as event;
 ghost use Rattle.port_events.specs.declared.ends.FrontEnd.TheVariants as ended;
-ghost use Rattle.front_loop.specs.inner.Stages.{EndsEarly, StopsAfter, end_of};
+ghost use Rattle.front_loop.specs.inner.Stages.{StopsAfter, end_of};
 ghost use Rattle.front_loop.specs.inner.Moments.{at, MayStart, Plays, MayGo, GoesOnce, GoesOn};
 
 use crate::closing::close_all;
@@ -31,16 +31,6 @@ fn end_after(event: PortEvent, stopped: bool) -> Option<FrontEnd>
     }
     match event {
         PortEvent::Finished => Some(FrontEnd::Finished),
-        _ => None,
-    }
-}
-
-fn early_end(event: PortEvent) -> Option<FrontEnd>
-    ensures { EndsEarly event result }
-{
-    match event {
-        PortEvent::Broken => Some(FrontEnd::Broken),
-        PortEvent::NoMemory => Some(FrontEnd::NoMemory),
         _ => None,
     }
 }
@@ -103,9 +93,10 @@ fn round<R: Wait, M: Farm, F: Front, P: Ports>(
         result }
 {
     let event = ports.next(room);
-    match early_end(event) {
-        Some(end) => Ok(Some(end)),
-        None => {
+    match event {
+        PortEvent::Broken => Ok(Some(FrontEnd::Broken)),
+        PortEvent::NoMemory => Ok(Some(FrontEnd::NoMemory)),
+        _ => {
             let piece = room.as_slice();
             play(work, seat, table, ports, &Came { event, piece })
         }

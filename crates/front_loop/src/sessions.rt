@@ -1,6 +1,5 @@
 //! Sessions, and where they are kept.
-ghost use Rattle.std.specs.Prelude.{◌≡◌, ◌+◌, ◌<◌, ◌++◌, ◌∷◌, [], true, false, length, map, IfSome, IfNone, position, ◌==◌, ℕ};
-ghost use Rattle.front_loop.specs.declared.sessions.Session.{Session};
+ghost use Rattle.std.specs.Prelude.{◌≡◌, ◌+◌, ◌<◌, ◌++◌, ◌∷◌, [], true, false, length, map, IfSome, IfNone};
 ghost use Rattle.front_loop.specs.Rounds.{has};
 ghost use Rattle.front_loop.specs.inner.Sessions.{conns, HasConn};
 
@@ -56,18 +55,12 @@ impl<T> SessionTable<T> {
     }
 }
 
-fn position_of<T>(sessions: &[Session<T>], conn: u32) -> Option<usize>
-    ensures { result ≡ position (λ (s : Session T). s.conn == conn) sessions.now }
-{
-    sessions.iter().position(|session| session.conn == conn)
-}
-
 /// The place of the session of a connection.
 pub fn place_of<T>(sessions: &[Session<T>], conn: u32) -> Option<usize>
     ensures some { IfSome result (λ i. (i < length sessions.now) × HasConn sessions.now i conn) }
     ensures none { IfNone result (has (conns sessions.now) conn ≡ false) }
 {
-    match position_of(sessions, conn) {
+    match sessions.iter().position(|session| session.conn == conn) {
         Some(place) => Some(place),
         None => None,
     }

@@ -3,9 +3,9 @@ ghost use Rattle.std.specs.Prelude.{refl};
 ghost use Rattle.http_handler.specs.Tiles.{tile_rules, Knows};
 
 use crate::acts::{Act, HttpAsk};
-use crate::conn_states::{ConnState, Stage, is_reading, keep, spot_of_ask};
+use crate::conn_states::{ConnState, Stage, spot_of_ask};
 use crate::serving::{fetch_and_say, http_ask_in, serve_http_ask};
-use farm_base::Worn;
+use farm_base::{MOST_HEAD_BYTES, Worn};
 use farm_history::{Conn, Reply};
 use front_loop::{Context, Disposition, Farm, Front, Piece, Reason};
 use std::alloc::Global;
@@ -47,12 +47,13 @@ impl Front for Tiles {
         piece: &Piece<'_>,
         response: &mut Vec<u8>,
     ) -> Result<Disposition, Worn> {
-        if !is_reading(conn_state.stage) {
+        let Stage::Reading = conn_state.stage else {
             return Ok(Disposition::Stays);
-        }
-        let Ok(()) = keep(&mut conn_state.head, piece.bytes) else {
+        };
+        let Ok(()) = conn_state.head.extend_from_slice(piece.bytes) else {
             return Ok(Disposition::Leaves(Reason::Starved));
         };
+        conn_state.head.truncate(MOST_HEAD_BYTES);
         let Some(http_ask) = http_ask_in(context.farm, conn_state.head.as_slice()) else {
             return Ok(Disposition::Stays);
         };

@@ -3,7 +3,7 @@
 ghost use Rattle.std.specs.Prelude.{◌≡◌, ◌≤◌, ◌<◌, ◌+◌, ◌*◌, length, find, Option, option_copied};
 ghost use Rattle.plain_world.specs.World.{IsTile, IsMeta, meta_of, index_place};
 ghost use Rattle.meta_container.specs.Reading as spec;
-ghost use Rattle.meta_container.specs.Reading.{Hands, number_at, head_meta, is_present, entries_in, tile_found, entry_found, listing_found};
+ghost use Rattle.meta_container.specs.Reading.{Hands, number_at, head_meta, entries_in, tile_found, entry_found, listing_found};
 
 use crate::container::{Entry, HEAD_BYTES, Listing, PLACES};
 use arrayvec::ArrayVec;
@@ -30,7 +30,7 @@ pub fn tile_in<'a>(bytes: &'a [u8], m: Meta, t: Tile) -> Result<&'a [u8], MetaFa
     }
     let place = index_place(t);
     let entry = entry_at(bytes, place);
-    if !is_present(entry) || is_wild(bytes.len(), entry) {
+    if entry.size == 0 || is_wild(bytes.len(), entry) {
         return Err(MetaFault::Index(place));
     }
     let offset = entry.offset as usize;
@@ -54,7 +54,7 @@ pub fn entry_in(head: &[u8], m: Meta, t: Tile) -> Result<Entry, MetaFault>
     }
     let place = index_place(t);
     let entry = entry_at(head, place);
-    if !is_present(entry) || begins_in_head(entry) {
+    if entry.size == 0 || (entry.offset as usize) < HEAD_BYTES {
         return Err(MetaFault::Index(place));
     }
     Ok(entry)
@@ -168,22 +168,11 @@ fn entry_at(bytes: &[u8], place: u32) -> Entry
     }
 }
 
-fn is_present(entry: Entry) -> bool
-    ensures { result ≡ is_present entry }
-{
-    entry.size != 0
-}
-
-fn begins_in_head(entry: Entry) -> bool
-    ensures { result ≡ spec.begins_in_head entry }
-{
-    (entry.offset as usize) < HEAD_BYTES
-}
-
 fn is_wild(len: usize, entry: Entry) -> bool
     ensures { result ≡ spec.is_wild len entry }
 {
-    begins_in_head(entry) || len < entry.offset as usize + entry.size as usize
+    let offset = entry.offset as usize;
+    offset < HEAD_BYTES || len < offset + entry.size as usize
 }
 
 #[tactic(auto, unfolding(crate::specs::Reading::entries_in), using(crate::proofs::Entries::none_yet, crate::proofs::Entries::present_more, crate::proofs::Entries::absent_more))]
@@ -194,7 +183,7 @@ fn entries_in(bytes: &[u8]) -> ArrayVec<Entry, PLACES>
     let mut entries = ArrayVec::new();
     for place in 0..PLACES as u32 {
         let entry = entry_at(bytes, place);
-        if is_present(entry) {
+        if entry.size != 0 {
             entries.push(entry);
         }
     }

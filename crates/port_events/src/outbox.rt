@@ -62,22 +62,6 @@ pub fn drop_front(bytes: &mut Vec<u8>, count: usize)
 }
 
 impl Pending {
-    fn new(alloc: Global, conn: u32) -> Pending
-        ensures { result ≡ (conn, []) }
-    {
-        Pending {
-            conn,
-            bytes: Vec::new(alloc),
-            start: 0,
-        }
-    }
-
-    fn conn(&self) -> u32
-        ensures { result ≡ self.now.0 }
-    {
-        self.conn
-    }
-
     fn rest(&self) -> &[u8]
         ensures { result.now ≡ self.now.1 }
     {
@@ -148,7 +132,7 @@ impl Model for Outbox {
 fn place_of(items: &[Pending], conn: u32) -> Option<usize>
     ensures { result ≡ position (λ (p : ℕ × List ℕ). p.0 == conn) items.now }
 {
-    items.iter().position(|pending| pending.conn() == conn)
+    items.iter().position(|pending| pending.conn == conn)
 }
 
 fn there(items: &[Pending], conn: u32) -> usize
@@ -188,7 +172,11 @@ impl Outbox {
         ensures refused { OnErr result (self.new ≡ self.old) }
     {
         self.rests.reserve(self.items.len() + 1)?;
-        self.items.push(Pending::new(alloc, conn))?;
+        self.items.push(Pending {
+            conn,
+            bytes: Vec::new(alloc),
+            start: 0,
+        })?;
         Ok(())
     }
 

@@ -1,9 +1,9 @@
 //! The asks that wait, in one list in the order in which they came: the chain of a key is those of its asks.
-ghost use Rattle.std.specs.Prelude.{◌≡◌, ◌+◌, ◌<◌, ◌≤◌, IsSome, not, ◌++◌, length, map, filter, count_by, vec_len};
+ghost use Rattle.std.specs.Prelude.{◌≡◌, ◌+◌, ◌<◌, ◌≤◌, IsSome, not, ◌++◌, length, map, filter, vec_len};
 ghost use Rattle.std.specs.Vec.{vec_capacity};
-ghost use Rattle.render_queues.specs.Tables.{waits_on, asked_by, reply_with, with_waiter};
+ghost use Rattle.render_queues.specs.Tables.{waits_on, reply_with, with_waiter};
 
-use farm_history::{Conn, Key, Outcome, Reply, Waiter};
+use farm_history::{Key, Outcome, Reply, Waiter};
 
 /// An ask that waits for a metatile.
 #[derive(Clone, Copy)]
@@ -46,21 +46,6 @@ pub(crate) fn drop_asks_on(asks: &mut Vec<Asked>, key: Key)
     ensures room { vec_capacity asks.new ≡ vec_capacity asks.old }
 {
     asks.retain(|ask| !ask.is_for(key));
-}
-
-/// Drops the asks of the connection.
-pub(crate) fn drop_asks_of(asks: &mut Vec<Asked>, conn: Conn)
-    ensures asks { asks.new.items ≡ filter (λ a. not (asked_by conn a)) asks.old.items }
-    ensures room { vec_capacity asks.new ≡ vec_capacity asks.old }
-{
-    asks.retain(|ask| ask.waiter.conn != conn);
-}
-
-/// How many of the asks are of the connection.
-pub(crate) fn asks_of(asks: &[Asked], conn: Conn) -> usize
-    ensures { result ≡ count_by (asked_by conn) asks.now }
-{
-    asks.iter().filter(|ask| ask.waiter.conn == conn).count()
 }
 
 /// Adds the ask of the waiter, if there is one.

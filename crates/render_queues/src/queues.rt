@@ -5,9 +5,9 @@ ghost use Rattle.farm_history.specs.Lists.{without_first};
 ghost use Rattle.render_queues.specs.OneQueue.{is_below};
 ghost use Rattle.render_queues.specs.Tables.{AreSound, after_end, after_leave, after_take, is_liftable, is_of_front, after_join, after_lift, line_of, next_of, no_tables, open_count, open_of, after_place, standing, takes_lifted};
 
-use crate::asks::{Asked, add_ask, asks_of, drop_asks_of, drop_asks_on, reply_all};
+use crate::asks::{Asked, add_ask, drop_asks_on, reply_all};
 use crate::key_list::{drop_key, is_among};
-use crate::replies::{drop_replies, first_reply, replies_of};
+use crate::replies::first_reply;
 use crate::standing::Standing;
 use crate::waiting::Waiting;
 use farm_base::{MOST_ASKS, NoMemory};
@@ -193,8 +193,8 @@ impl Queues {
         ensures tables { self.new ≡ after_leave self.old conn }
     {
         let count = self.asks_of(conn);
-        drop_asks_of(&mut self.asks, conn);
-        drop_replies(&mut self.ended, conn);
+        self.asks.retain(|ask| ask.waiter.conn != conn);
+        self.ended.retain(|reply| reply.conn != conn);
         count
     }
 
@@ -202,9 +202,17 @@ impl Queues {
     pub fn asks_of(&self, conn: Conn) -> u32
         ensures { result ≡ open_of self.now conn }
     {
-        let waiting = asks_of(self.asks.as_slice(), conn);
-        let ended = replies_of(self.ended.as_slice(), conn);
-        (waiting + ended) as u32
+        let waiting = self
+            .asks
+            .as_slice()
+            .iter()
+            .filter(|ask| ask.waiter.conn == conn);
+        let ended = self
+            .ended
+            .as_slice()
+            .iter()
+            .filter(|reply| reply.conn == conn);
+        (waiting.count() + ended.count()) as u32
     }
 
     /// How many asks are open.

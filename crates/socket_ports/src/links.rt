@@ -40,7 +40,8 @@ pub struct Link {
     writable: bool,
     // readiness to write is asked for
     asks: bool,
-    queued: bool,
+    // it stands in the queue
+    pub(crate) queued: bool,
 }
 
 fn is_passing(error: &io::Error) -> bool {
@@ -78,14 +79,9 @@ impl Link {
         new
     }
 
-    fn is_ready(&self) -> bool {
+    /// Whether there is something on it.
+    pub(crate) fn is_ready(&self) -> bool {
         !self.ended && (self.readable || self.short && self.writable)
-    }
-
-    /// Whether the connection stays in the queue.
-    pub(crate) fn stays(&mut self) -> bool {
-        self.queued = self.is_ready();
-        self.queued
     }
 
     /// Whether it takes bytes again after a short send; says so once.

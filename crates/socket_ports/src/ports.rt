@@ -311,7 +311,11 @@ impl<R: Net + rt::Files> SocketPorts<R> {
             None => None,
         };
         let stays = match self.place_of(conn) {
-            Some(place) => self.links[place].stays(),
+            Some(place) => {
+                let link = &mut self.links[place];
+                link.queued = link.is_ready();
+                link.queued
+            }
             None => false,
         };
         if stays && !self.queue.is_empty() {

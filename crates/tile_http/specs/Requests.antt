@@ -27,10 +27,3 @@ Reads bytes Bad = IsBad bytes
 Reads bytes NotGet = IsNotGet bytes
 Reads bytes NoTarget = GetsNone bytes
 Reads bytes (Get t) = GetsTile bytes t.kind (place_of t)
-
--- what a head of that method and target asks for
-abbrev pub Targets : List ℕ → List ℕ → Request → Type 0
-Targets method target NotGet = method ≢ codes "GET"
-Targets method target NoTarget = (method ≡ codes "GET") × NamesNone target
-Targets method target (Get t) = (method ≡ codes "GET") × Names target t.kind (place_of t)
-Targets method target _ = ⊥

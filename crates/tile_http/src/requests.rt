@@ -1,7 +1,7 @@
 //! What a connection's bytes ask for.
-ghost use Rattle.std.specs.Prelude.{◌≡◌, ◌≤◌, length, IsUtf8};
+ghost use Rattle.std.specs.Prelude.{◌≤◌, length};
 ghost use Rattle.farm_base.specs.Limits.{most_head_bytes};
-ghost use Rattle.tile_http.specs.Requests.{Reads, Targets};
+ghost use Rattle.tile_http.specs.Requests.{Reads};
 
 use crate::heads::{Head, read_head};
 use crate::targets::{Target, read_target};
@@ -33,22 +33,17 @@ pub fn read_request(bytes: &[u8]) -> Request<'_>
     match read_head(bytes) {
         Head::Open => Request::Open,
         Head::Bad => Request::Bad,
-        Head::Whole(method, target) => request_of(method, target),
-    }
-}
-
-fn request_of<'a>(method: &[u8], target: &'a [u8]) -> Request<'a>
-    requires { IsUtf8 target.now }
-    ensures { Targets method.now target.entry.now result }
-{
-    if method != b"GET".as_slice() {
-        return Request::NotGet;
-    }
-    let Ok(text) = from_utf8(target) else {
-        return Request::NoTarget;
-    };
-    match read_target(text) {
-        Some(target) => Request::Get(target),
-        None => Request::NoTarget,
+        Head::Whole(method, target) => {
+            if method != b"GET".as_slice() {
+                return Request::NotGet;
+            }
+            let Ok(text) = from_utf8(target) else {
+                return Request::NoTarget;
+            };
+            match read_target(text) {
+                Some(target) => Request::Get(target),
+                None => Request::NoTarget,
+            }
+        }
     }
 }

@@ -1,6 +1,5 @@
 //! The names of maps.
 ghost use Rattle.std.specs.Prelude.{◌≡◌};
-ghost use Rattle.std.specs.List.{list_all};
 ghost use Rattle.tile_paths.specs.Paths as spec;
 
 /// Whether the text may be a map's name: 1 to 40 bytes of `a` to `z`, `0` to `9`, `_` and `-`.
@@ -8,17 +7,10 @@ pub fn is_name(text: &str) -> bool
     ensures { result ≡ spec.is_map_name text.now }
 {
     let len = text.len();
-    len >= 1 && len <= 40 && are_name_bytes(text.as_bytes())
-}
-
-fn are_name_bytes(bytes: &[u8]) -> bool
-    ensures { result ≡ list_all spec.is_name_byte bytes.now }
-{
-    bytes.iter().all(|b| is_name_byte(*b))
-}
-
-fn is_name_byte(b: u8) -> bool
-    ensures { result ≡ spec.is_name_byte b }
-{
-    matches!(b, b'a'..=b'z' | b'0'..=b'9' | b'_' | b'-')
+    if len < 1 || len > 40 {
+        return false;
+    }
+    text.as_bytes()
+        .iter()
+        .all(|b| matches!(*b, b'a'..=b'z' | b'0'..=b'9' | b'_' | b'-'))
 }

@@ -298,16 +298,10 @@ fn is_part(part: &str) -> bool
         && !part.as_bytes().ends_with(b".new")
 }
 
-fn is_own_path(path: &str) -> bool
-    ensures { result ≡ is_own_path path.now }
-{
-    path.split('/').all(is_part)
-}
-
 fn name_of(alloc: Global, path: &str) -> Result<String, StoreFault>
     ensures { is_own_path path.now ≡ false → result ≡ Err Failed }
 {
-    if !is_own_path(path) {
+    if !path.split('/').all(is_part) {
         return Err(StoreFault::Failed);
     }
     Ok(format!(in alloc; "{FOLDER}/{path}")?)

@@ -29,12 +29,6 @@ use Rattle.front_loop.specs.Front.{keeps, Hears, Replies, Begins}
 use Rattle.front_loop.specs.inner.Sessions.{conns, StandsAt, is_up, worse, owing, newcomer}
 use Rattle.front_loop.specs.inner.Stands.{World, IsAtRest, AreTold, CanBegin, Makes}
 
--- how a front ends at an event that begins no round
-abbrev pub EndsEarly : PortEvent → Option FrontEnd → Type 0
-EndsEarly event.Broken end = end ≡ Some ended.Broken
-EndsEarly event.NoMemory end = end ≡ Some ended.NoMemory
-EndsEarly _ end = end ≡ None
-
 -- how a front ends after a round
 abbrev pub end_of : PortEvent → Bool → Option FrontEnd
 end_of e true = Some ended.Stopped

@@ -2,8 +2,8 @@ use Rattle.std.proofs.Common.{List, ℕ, sym, subst}
 use Rattle.port_events.specs.Told.{Hears}
 use Rattle.front_loop.proofs.rounds.round.Goals as goal
 
-pub returns-in-None-clause-goes : goal.returns-in-None-clause-goes
-returns-in-None-clause-goes g c = λ start h. c.play.ensures.goes start (g.P.Ports.state c.args.ports.now).told
+pub returns-in_default-clause-goes : goal.returns-in_default-clause-goes
+returns-in_default-clause-goes g c = λ start h. c.play.ensures.goes start (g.P.Ports.state c.args.ports.now).told
     (record {
       rounds = h.0;
       can = h.1;

@@ -5,5 +5,5 @@ use Rattle.expiry_lists.proofs.marks.Marks.of.Goals as goal
 
 pub returns : goal.returns
 returns c =
-    c.mark_at.ensures
-    ∙ (sym (mark_found c.self.inside.nodes.entries c.len-count.ensures.unique c.args.key) ∙ ap (λ (m : MarksSeen). mark_of m.shown c.args.key) c.self.view_is)
+    c.mark_of.ensures.mark
+    ∙ (sym (mark_found c.self.inside.nodes.entries c.mark_of.ensures.unique c.args.key) ∙ ap (λ (m : MarksSeen). mark_of m.shown c.args.key) c.self.view_is)

@@ -6,6 +6,7 @@ use Rattle.farm_core.proofs.farm.Farm.leave.Goals as goal
 
 pub returns-clause-step : goal.returns-clause-step
 returns-clause-step g c = λ told h s.
+    let turned = c.self.view_is ∙ c.count_turn.ensures.turned in
     leave_told g.D.TileStore.state told _ _ h _ _
-    (c.drop_asks.ensures.count ∙ ap {A = FarmSeen g.row.D.Denot} (λ f. open_of f.queues c.args.conn) c.count_turn.ensures.turned)
-    (c.drop_asks.ensures.farm ∙ ap {A = FarmSeen g.row.D.Denot} (λ f. record f { queues = after_leave f.queues c.args.conn }) c.count_turn.ensures.turned) s
+    (c.leave.ensures.count ∙ ap {A = FarmSeen g.row.D.Denot} (λ f. open_of f.queues c.args.conn) turned)
+    (rw c.leave.ensures.tables (ap {A = FarmSeen g.row.D.Denot} (λ f. record f { queues = after_leave f.queues c.args.conn }) turned)) s

@@ -9,7 +9,8 @@ use Rattle.farm_core.proofs.farm.Farm.restyle.Goals as goal
 
 pub returns-in-Some-clause-step : goal.returns-in-Some-clause-step
 returns-in-Some-clause-step g c = λ told h s.
-    let given = c.give_style.ensures ∙ ap {A = FarmSeen g.row.D.Denot} (λ f. record f { styled = slice_set f.styled c.in-Some.map (Some c.args.number) }) c.count_turn.ensures.turned in
+    let turned = c.self.view_is ∙ c.count_turn.ensures.turned in
+    let given = ap {A = FarmSeen g.row.D.Denot} (λ f. record f { styled = slice_set f.styled c.in-Some.map (Some c.args.number) }) turned in
     restyle_told g.D.TileStore.state told c.args.self.now c.mark_map_dirty.new.self h c.args.number c.mark_map_dirty.result c.in-Some.map
     (subst (λ (f : FarmSeen g.row.D.Denot). Some c.in-Some.map ≡ option_map (λ (r : Restyle). r.map) (slice_get f.plan.restyles c.args.number)) c.count_turn.ensures.turned c.in-Some.ensures.map)
     (subst (λ (f : FarmSeen g.row.D.Denot). c.in-Some.map < length f.plan.maps) c.count_turn.ensures.turned c.in-Some.ensures.in_table)

@@ -1,7 +1,0 @@
-use Rattle.std.proofs.Common.{rules, not}
-use Rattle.std.proofs.lemmas.Fn.{filter_same}
-use Rattle.render_queues.specs.Tables.{asked_by}
-use Rattle.render_queues.proofs.asks.drop_asks_of.Goals as goal
-
-pub returns-clause-asks : goal.returns-clause-asks
-returns-clause-asks c = filter_same _ (λ a. not (asked_by c.args.conn a)) _ (λ x b f' k. search rules) _ _ c.retain.ensures.filtered
