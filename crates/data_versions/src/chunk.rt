@@ -1,7 +1,6 @@
 //! A chunk of a layer: features that snapshots share.
 ghost use Rattle.std.specs.Prelude.{◌≡◌, ◌≤◌, true, false, length, All, IfOk};
 ghost use Rattle.plain_shapes.specs.Features.{Feature};
-ghost use Rattle.data_versions.specs.Near.{is_near};
 ghost use Rattle.data_versions.specs.inner.Cells.{IsWide, IsMarked};
 ghost use Rattle.data_versions.specs.inner.Extents.{IsIn};
 

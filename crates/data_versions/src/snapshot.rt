@@ -1,8 +1,8 @@
 //! Data that never change and are shared: snapshots, and views of their layers.
-ghost use Rattle.std.specs.Prelude.{◌≡◌, ◌≤◌, IfOk, All, length, slice_get};
+ghost use Rattle.std.specs.Prelude.{◌≡◌, ◌≤◌, IfOk, length, slice_get};
 ghost use Rattle.std.specs.Option.{option_copied};
 ghost use Rattle.std.specs.Arc.{arc_value};
-ghost use Rattle.plain_shapes.specs.Data.{IsLayer, IsDataset, layer_named, features_named};
+ghost use Rattle.plain_shapes.specs.Data.{IsDataset, features_named};
 ghost use Rattle.data_versions.specs.Near.{place_of, next_near, all_near};
 ghost use Rattle.data_versions.specs.Shared.{shared_layers};
 ghost use Rattle.data_versions.specs.inner.Parts.{laid};

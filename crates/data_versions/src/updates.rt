@@ -1,18 +1,15 @@
 //! An update gives the next snapshot.
-ghost use Rattle.std.specs.Prelude.{◌≡◌, ◌≢◌, ◌≤◌, length, position, All, IfOk, OnOk, IfErr, Some, None, Ok, Err};
+ghost use Rattle.std.specs.Prelude.{◌≡◌, ◌≢◌, ◌≤◌, length, position, IfOk, OnOk, IfErr, Some, None, Ok, Err};
 ghost use Rattle.std.specs.Str.{bytes_eq};
 ghost use Rattle.std.specs.List.{IsDistinct};
-ghost use Rattle.plain_shapes.specs.Data.{IsLayer, names_of, layers_after, change_fault, update_result};
-ghost use Rattle.data_versions.specs.Shared.{shared_layers};
+ghost use Rattle.plain_shapes.specs.Data.{names_of, layers_after, change_fault, update_result};
 ghost use Rattle.plain_shapes.specs.Limits.{most_features, most_data_layers};
 
-use crate::chunked::ChunkedLayer;
 use crate::dataset::{Change, Update};
 use crate::edited::{EditedLayer, no_memory};
 use crate::snapshot::Snapshot;
 use farm_base::{ApplyFault, NoMemory};
 use std::alloc::Global;
-use std::sync::Arc;
 
 fn place_named(edited_layers: &[EditedLayer<'_>], name: &str) -> Option<usize>
     ensures { result ≡ position (λ l. bytes_eq l.name name.now) edited_layers.now }
