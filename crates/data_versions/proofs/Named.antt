@@ -1,5 +1,5 @@
 -- Layers that are looked up by name.
-use Rattle.std.proofs.Common.{◌≡◌, ℕ, zero, suc, ◌+◌, ◌≤◌, ◌<◌, List, [], ◌∷◌, length, get_or, set, take, drop, drop-cons, add-one, refl, sym, ap, subst, arith}
+use Rattle.std.proofs.Common.{◌≡◌, ℕ, zero, suc, ◌+◌, ◌≤◌, ◌<◌, List, [], ◌∷◌, ◌++◌, length, get_or, set, take, drop, drop-cons, add-one, refl, sym, ap, ◌∙◌, subst, arith}
 use Rattle.std.specs.Prelude.{Bool, true, false, cond, nat_lt, position, All, Some, None, option_map, Ok, Err}
 use Rattle.std.specs.Str.{bytes_eq}
 use Rattle.std.specs.List.{AllByRecursion, position_or_len}
@@ -11,7 +11,7 @@ use Rattle.data_versions.specs.Shared.{shared_layers}
 use Rattle.plain_shapes.specs.Features.{Layer}
 use Rattle.plain_shapes.specs.Data.{Change, IsLayer, IsDataset, names_of, layer_named, features_named, changed_layer, layers_after, change_fault, changed_from}
 use Rattle.farm_base.specs.declared.faults.ApplyFault.{ApplyFault}
-use Rattle.std.proofs.lemmas.List.{length-map, drop_all}
+use Rattle.std.proofs.lemmas.List.{length-map, map-append, drop_all, take_more}
 use Rattle.std.proofs.lemmas.List.Quantifiers.{position-Some}
 use Rattle.std.proofs.lemmas.List.Folds.{find_at}
 use Rattle.std.proofs.lemmas.Option.{slice_get_past}
@@ -98,6 +98,13 @@ by_place (first ∷ shares) (suc i) share small each at = by_place shares i shar
 pub shared_valid : (shares : List (Arc Layer Global)) (i : ℕ) (share : Arc Layer Global) → i < length shares → All IsLayer (shared_layers shares)
     → share ≡ get_or shares i share → IsLayer (arc_value share)
 shared_valid shares i share small each at = by_place shares i share small (recursion_from_All IsLayer (shared_layers shares) each) at
+
+-- one more share
+pub shares_more : (shares : List (Arc Layer Global)) (i : ℕ) (share : Arc Layer Global) (before after : List Layer) (l : Layer) → i < length shares
+    → share ≡ get_or shares i share → before ≡ shared_layers (take i shares) → l ≡ arc_value share → after ≡ before ++ l ∷ [] → after ≡ shared_layers (take (i + 1) shares)
+shares_more shares i share before after l small at so_far here pushed =
+    pushed ∙ ap (λ ls. ls ++ l ∷ []) so_far ∙ ap (λ m. shared_layers (take i shares) ++ m ∷ []) (here ∙ ap arc_value at)
+    ∙ sym (ap shared_layers (take_more shares i share small) ∙ map-append arc_value (take i shares) (get_or shares i share ∷ []))
 
 -- one more valid layer
 pub layers_more : (layers : List Layer) (i : ℕ) (l : Layer) → i < length layers → l ≡ get_or layers i l → All IsLayer (take i layers) → IsLayer l

@@ -130,11 +130,10 @@ impl<B: Block> Blocks<B> {
     }
 
     /// The place of the first feature from the place `from` on that answers the question.
-    pub(crate) fn find(&self, from: u32, question: Question) -> Option<u32>
+    pub(crate) fn find(&self, mut from: u32, question: Question) -> Option<u32>
         ensures { result ≡ next_answer (answers question) self.now from }
     {
         let count = self.len();
-        let mut from = from;
         while from < count {
             let (place, part) = self.part_from(from, question);
             if let Some(steps) = first_answer(part, question) {

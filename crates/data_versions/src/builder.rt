@@ -18,7 +18,7 @@ const FULL_SEGMENT: usize = 32;
 /// chunk.
 #[derive(Drop)]
 pub(crate) struct Builder {
-    segments: Vec<Segment>,
+    pub(crate) segments: Vec<Segment>,
     chunks: Vec<Chunk>,
     loose: Vec<SharedFeature>,
 }
@@ -35,21 +35,23 @@ impl Builder {
         }
     }
 
-    fn close_segment(&mut self, alloc: Global) -> Result<(), NoMemory>
+    /// Makes a segment of the chunks so far.
+    pub(crate) fn close_segment(&mut self, alloc: Global) -> Result<(), NoMemory>
         requires { self.old.loose.items ≡ [] }
         ensures all { OnOk result (laid self.new.segments.items ≡ built self.old) }
         ensures chunks { self.new.chunks.items ≡ [] }
         ensures loose { self.new.loose.items ≡ [] }
     {
-        let chunks = mem::replace(&mut self.chunks, Vec::new(alloc));
-        if chunks.is_empty() {
+        if self.chunks.is_empty() {
             return Ok(());
         }
+        let chunks = mem::replace(&mut self.chunks, Vec::new(alloc));
         self.segments.push(Segment::of(alloc, chunks)?)?;
         Ok(())
     }
 
-    fn add_chunk(&mut self, alloc: Global, chunk: Chunk) -> Result<(), NoMemory>
+    /// Puts a chunk at the end.
+    pub(crate) fn add_chunk(&mut self, alloc: Global, chunk: Chunk) -> Result<(), NoMemory>
         requires { self.old.loose.items ≡ [] }
         ensures all { OnOk result (built self.new ≡ built self.old ++ chunk) }
         ensures loose { self.new.loose.items ≡ [] }
@@ -64,14 +66,15 @@ impl Builder {
         Ok(())
     }
 
-    fn close_chunk(&mut self, alloc: Global) -> Result<(), NoMemory>
+    /// Makes a chunk of the features that are in none.
+    pub(crate) fn close_chunk(&mut self, alloc: Global) -> Result<(), NoMemory>
         ensures all { OnOk result (built self.new ≡ built self.old) }
         ensures loose { self.new.loose.items ≡ [] }
     {
-        let features = mem::replace(&mut self.loose, Vec::new(alloc));
-        if features.is_empty() {
+        if self.loose.is_empty() {
             return Ok(());
         }
+        let features = mem::replace(&mut self.loose, Vec::new(alloc));
         let chunk = Chunk::of(alloc, features)?;
         self.add_chunk(alloc, chunk)
     }
@@ -87,25 +90,6 @@ impl Builder {
             self.loose.reserve(MOST_TOGETHER)?;
         }
         self.loose.push(feature)?;
-        Ok(())
-    }
-
-    /// Puts the features of a chunk at the end; the chunk is shared.
-    pub(crate) fn share_chunk(&mut self, alloc: Global, chunk: &Chunk) -> Result<(), NoMemory>
-        ensures { OnOk result (built self.new ≡ built self.old ++ chunk.now) }
-    {
-        self.close_chunk(alloc)?;
-        let shared = chunk.share()?;
-        self.add_chunk(alloc, shared)
-    }
-
-    /// Puts the features of a segment at the end; the segment is shared.
-    pub(crate) fn share_segment(&mut self, alloc: Global, segment: &Segment) -> Result<(), NoMemory>
-        ensures { OnOk result (built self.new ≡ built self.old ++ segment.now) }
-    {
-        self.close_chunk(alloc)?;
-        self.close_segment(alloc)?;
-        self.segments.push(segment.share()?)?;
         Ok(())
     }
 

@@ -1,8 +1,8 @@
 //! Which of the 64 by 64 cells of a box a rectangle meets, and the cells that many rectangles meet: of each row a
 //! number, in which the bit of a column stands for a cell. Rows are counted from the north, columns from the west.
-ghost use Rattle.std.specs.Prelude.{◌≡◌, ◌≤◌, ◌<◌, ◌+◌, ◌*◌, ◌/◌, ℕ, false, length, slice_set, slice_index_or, bit_and, bit_or};
+ghost use Rattle.std.specs.Prelude.{◌≡◌, ◌≤◌, ◌<◌, ◌+◌, ℕ, false, length, slice_set, slice_index_or, bit_and, bit_or};
 ghost use Rattle.std.specs.Int.{bit_at};
-ghost use Rattle.data_versions.specs.inner.Cells.{scale_of, Marks};
+ghost use Rattle.data_versions.specs.inner.Cells.{scale_of, part_of, Marks};
 
 use geo_model::Bounds;
 use std::marker::Model;
@@ -52,13 +52,15 @@ fn scale_of(low: u32, high: u32) -> u64
     SHARES_OF_WAY / (u64::from(high.saturating_sub(low)) + 1)
 }
 
-// In which of 64 equal parts of a way its point after so many steps lies, counted from 0.
-fn part_at(steps: u32, scale: u64) -> u32
-    requires { steps * scale < 4398046511104 }
-    ensures value { result ≡ steps * scale / 68719476736 }
+// In which of 64 equal parts of the way from `low` to `high` the place lies, counted from 0.
+fn part_at(low: u32, high: u32, place: u32, scale: u64) -> u32
+    requires from { low ≤ place }
+    requires to { place ≤ high }
+    requires scale { scale ≡ scale_of low high }
+    ensures value { result ≡ part_of low high place }
     ensures small { result < 64 }
 {
-    (u64::from(steps) * scale / SHARES_OF_CELL) as u32
+    (u64::from(place - low) * scale / SHARES_OF_CELL) as u32
 }
 
 fn columns_between(first: u32, last: u32) -> u64
@@ -111,10 +113,10 @@ impl Grid {
                 columns: 0,
             };
         }
-        let first = part_at(west - self.bounds.west, self.across);
-        let last = part_at(east - self.bounds.west, self.across);
-        let top = part_at(north - self.bounds.north, self.down);
-        let bottom = part_at(south - self.bounds.north, self.down);
+        let first = part_at(self.bounds.west, self.bounds.east, west, self.across);
+        let last = part_at(self.bounds.west, self.bounds.east, east, self.across);
+        let top = part_at(self.bounds.north, self.bounds.south, north, self.down);
+        let bottom = part_at(self.bounds.north, self.bounds.south, south, self.down);
         CellBlock {
             top,
             bottom,

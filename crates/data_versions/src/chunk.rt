@@ -1,13 +1,12 @@
 //! A chunk of a layer: features that snapshots share.
 ghost use Rattle.std.specs.Prelude.{◌≡◌, ◌≤◌, true, false, length, All, IfOk};
 ghost use Rattle.plain_shapes.specs.Features.{Feature};
-ghost use Rattle.data_versions.specs.Near.{is_near};
 ghost use Rattle.data_versions.specs.inner.Cells.{IsWide, IsMarked};
 ghost use Rattle.data_versions.specs.inner.Extents.{IsIn};
 
 use crate::block::Block;
 use crate::cells::{CELL_ROWS, Grid, add_block, has_one};
-use crate::extent::{Extent, extent_of, no_extent};
+use crate::extent::{Extent, NO_EXTENT};
 use crate::question::Question;
 use crate::shared::SharedFeature;
 use farm_base::NoMemory;
@@ -49,9 +48,14 @@ impl Model for Chunk {
 fn extent_over(features: &[SharedFeature]) -> Extent
     ensures { All (IsIn result) features.now }
 {
-    let mut extent = no_extent();
+    let mut extent = NO_EXTENT;
     for feature in features {
-        extent = extent.with(extent_of(feature));
+        let id = feature.id();
+        extent = extent.with(Extent {
+            least: id,
+            greatest: id,
+            bounds: feature.bbox(),
+        });
     }
     extent
 }
@@ -118,17 +122,6 @@ impl Chunk {
     {
         self.features.as_slice()
     }
-
-    // Whether a cell of the features meets the rectangle, or the rectangle holds no point; if not, no feature is
-    // near it.
-    fn is_met(&self, around: Bounds) -> bool
-        ensures { result ≡ false → All (λ f. is_near around f ≡ false) self.now }
-    {
-        if !is_wide(around) {
-            return true;
-        }
-        has_one(&self.cells, self.grid.cells_met(around))
-    }
 }
 
 impl Block for Chunk {
@@ -142,10 +135,13 @@ impl Block for Chunk {
         if !self.extent.may_answer(question) {
             return false;
         }
-        match question {
-            Question::HasId(_) => true,
-            Question::IsNear(around) => self.is_met(around),
+        let Question::IsNear(around) = question else {
+            return true;
+        };
+        if !is_wide(around) {
+            return true;
         }
+        has_one(&self.cells, self.grid.cells_met(around))
     }
 
     fn get(&self, i: u32) -> Option<&SharedFeature> {

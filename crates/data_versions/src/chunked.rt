@@ -1,16 +1,18 @@
 //! A layer of a snapshot: its name, and its features in segments of chunks.
 ghost use Rattle.std.specs.Prelude.{◌≡◌, length, slice_get, IfOk};
 ghost use Rattle.std.specs.Option.{option_copied};
-ghost use Rattle.data_versions.specs.Near.{place_of, next_near};
+ghost use Rattle.std.specs.Arc.{arc_value};
+ghost use Rattle.data_versions.specs.Near.{place_of};
 ghost use Rattle.data_versions.specs.inner.Parts.{laid};
 
 use crate::blocks::Blocks;
 use crate::question::Question;
 use crate::segment::Segment;
 use farm_base::{NoMemory, Text};
-use geo_model::{Bounds, Feature};
+use geo_model::Feature;
 use std::alloc::Global;
 use std::marker::Model;
+use std::sync::Arc;
 
 /// A layer whose features are in segments that are shared. Contracts see it as the layer.
 #[derive(Drop)]
@@ -28,18 +30,17 @@ impl Model for ChunkedLayer {
 }
 
 impl ChunkedLayer {
-    /// The layer of the name and the segments.
-    pub(crate) fn of(
+    /// A first share of the layer of the name and the segments.
+    pub(crate) fn shared(
         alloc: Global,
         name: Text,
         segments: Vec<Segment>,
-    ) -> Result<ChunkedLayer, NoMemory>
-        ensures { IfOk result (λ l. l ≡ record { name = name; features = laid segments.items }) }
+    ) -> Result<Arc<ChunkedLayer>, NoMemory>
+        ensures { IfOk result (λ l.
+            arc_value l ≡ record { name = name; features = laid segments.items }) }
     {
-        Ok(ChunkedLayer {
-            name,
-            segments: Blocks::of(alloc, segments)?,
-        })
+        let segments = Blocks::of(alloc, segments)?;
+        Ok(Arc::new(alloc, ChunkedLayer { name, segments })?)
     }
 
     /// The layer's name.
@@ -67,10 +68,7 @@ impl ChunkedLayer {
     pub(crate) fn get(&self, i: u32) -> Option<&Feature>
         ensures { option_copied result ≡ slice_get self.now.features i }
     {
-        match self.segments.get(i) {
-            Some(shared) => Some(shared.feature()),
-            None => None,
-        }
+        Some(self.segments.get(i)?.feature())
     }
 
     /// The place of the feature with the id.
@@ -78,12 +76,5 @@ impl ChunkedLayer {
         ensures { result ≡ place_of self.now.features id }
     {
         self.segments.find(0, Question::HasId(id))
-    }
-
-    /// The least place from `from` on of a feature near the rectangle.
-    pub(crate) fn next_near(&self, from: u32, around: Bounds) -> Option<u32>
-        ensures { result ≡ next_near self.now.features from around }
-    {
-        self.segments.find(from, Question::IsNear(around))
     }
 }

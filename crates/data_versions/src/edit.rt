@@ -1,22 +1,22 @@
 //! A layer while an update changes it.
 ghost use Rattle.std.specs.Prelude.{◌≡◌, ◌≤◌, ◌<◌, ◌∷◌, ◌++◌, [], true, false, nat_eq, length, IfOk, OnOk};
 ghost use Rattle.std.specs.List.{IsDistinct};
+ghost use Rattle.std.specs.Arc.{arc_value};
 ghost use Rattle.plain_shapes.specs.Limits.{most_features};
 ghost use Rattle.plain_shapes.specs.Data.{has_id, ids_of, IsLayer};
 ghost use Rattle.data_versions.specs.inner.Slots.{without, replaced_by, with_put};
-ghost use Rattle.data_versions.specs.inner.Parts.{laid};
 
 use crate::chunked::ChunkedLayer;
 use crate::finder::LayerFinder;
-use crate::segment::Segment;
 use crate::slot::slot_of;
 use crate::slots::Slots;
-use farm_base::NoMemory;
+use farm_base::{NoMemory, Text};
 use geo_model::Feature;
 use plain_shapes::MOST_FEATURES;
 use std::alloc::Global;
 use std::collections::BTreeMap;
 use std::marker::Model;
+use std::sync::Arc;
 
 /// The features of a layer by reference, each in a slot that stays its own, so that a removal moves no other
 /// feature. The first slots are those of the features from the start. The places are those of
@@ -145,11 +145,14 @@ impl<'a> LayerEdit<'a> {
         Ok(true)
     }
 
-    /// The features in segments. One in which nothing changed is shared, but for the last one, which is filled up
-    /// where new features follow.
-    pub(crate) fn segments(&self, alloc: Global) -> Result<Vec<Segment>, NoMemory>
-        ensures { IfOk result (λ segments. laid segments.items ≡ self.now) }
+    /// A layer of the name and the features. A segment in which nothing changed is shared, but for the last one,
+    /// which is filled up where new features follow.
+    pub(crate) fn shared(&self, alloc: Global, name: &str) -> Result<Arc<ChunkedLayer>, NoMemory>
+        ensures { IfOk result
+            (λ shared. arc_value shared ≡ record { name = name.now; features = self.now }) }
     {
-        self.slots.segments(alloc)
+        let name = Text::of(alloc, name)?;
+        let segments = self.slots.segments(alloc)?;
+        ChunkedLayer::shared(alloc, name, segments)
     }
 }

@@ -1,14 +1,15 @@
 //! The layers of a snapshot while an update changes them.
-ghost use Rattle.std.specs.Prelude.{◌≡◌, ◌≢◌, ◌≤◌, true, false, length, IfOk, OnOk, IfErr, Some, None, option_map, unwrap_or};
+ghost use Rattle.std.specs.Prelude.{◌≡◌, ◌≢◌, ◌≤◌, true, false, length, All, IfOk, OnOk, IfErr, Some, None, option_map, unwrap_or};
 ghost use Rattle.std.specs.Arc.{arc_value};
 ghost use Rattle.std.specs.Str.{bytes_eq};
 ghost use Rattle.plain_shapes.specs.Data.{ids_of, without_ids, first_missing, is_too_many, with_puts, with_change, features_fault, changed_layer, IsLayer};
 ghost use Rattle.plain_shapes.specs.Limits.{most_features};
+ghost use Rattle.data_versions.specs.Shared.{shared_layers};
 
 use crate::chunked::ChunkedLayer;
 use crate::dataset::Change;
 use crate::edit::LayerEdit;
-use farm_base::{ApplyFault, NoMemory, Text};
+use farm_base::{ApplyFault, NoMemory};
 use geo_model::Feature;
 use std::alloc::Global;
 use std::marker::Model;
@@ -84,20 +85,6 @@ fn begun_edit<'a>(
     }
 }
 
-fn share_edited(
-    alloc: Global,
-    layer: &ChunkedLayer,
-    edit: &LayerEdit<'_>,
-) -> Result<Arc<ChunkedLayer>, NoMemory>
-    ensures { IfOk result
-        (λ shared. arc_value shared ≡ record { name = layer.now.name; features = edit.now }) }
-{
-    let segments = edit.segments(alloc)?;
-    let name = Text::of(alloc, layer.name())?;
-    let changed = ChunkedLayer::of(alloc, name, segments)?;
-    Ok(Arc::new(alloc, changed)?)
-}
-
 /// A layer of a snapshot, and its features under edit from its first change on. Contracts see it as the
 /// layer that it is now.
 #[derive(Drop)]
@@ -122,12 +109,19 @@ impl<'a> Model for EditedLayer<'a> {
 }
 
 impl<'a> EditedLayer<'a> {
-    /// The layer, unchanged so far.
-    pub(crate) fn of(shared: &'a Arc<ChunkedLayer>) -> EditedLayer<'a>
-        requires { IsLayer (arc_value shared.now) }
-        ensures { result ≡ arc_value shared.now }
+    /// The layers, unchanged so far.
+    pub(crate) fn all(
+        alloc: Global,
+        layers: &'a [Arc<ChunkedLayer>],
+    ) -> Result<Vec<EditedLayer<'a>>, NoMemory>
+        requires { All IsLayer (shared_layers layers.now) }
+        ensures { IfOk result (λ edited_layers. edited_layers.items ≡ shared_layers layers.now) }
     {
-        EditedLayer { shared, edit: None }
+        let mut edited_layers = Vec::with_capacity(alloc, layers.len())?;
+        for shared in layers {
+            edited_layers.push(EditedLayer { shared, edit: None })?;
+        }
+        Ok(edited_layers)
     }
 
     /// Whether the layer has the name.
@@ -153,9 +147,9 @@ impl<'a> EditedLayer<'a> {
     {
         let layer: &'a ChunkedLayer = self.shared;
         let mut edit = begun_edit(alloc, layer, self.edit.take());
-        make_change(alloc, &mut edit, place, change)?;
+        let made = make_change(alloc, &mut edit, place, change);
         self.edit = Some(edit);
-        Ok(())
+        made
     }
 
     /// The layer as it is now, which shares all with the old one where nothing changed it.
@@ -169,7 +163,7 @@ impl<'a> EditedLayer<'a> {
             Some(edit) => {
                 // Read for what `len` ensures: the ids are distinct, and there are at most 1,000,000 features.
                 let _count = edit.len();
-                share_edited(alloc, layer, edit)
+                edit.shared(alloc, layer.name())
             }
         }
     }

@@ -179,7 +179,9 @@ fn edit_feature(
 
 impl Editable for Chunk {
     fn share_into(&self, alloc: Global, builder: &mut Builder) -> Result<(), NoMemory> {
-        builder.share_chunk(alloc, self)
+        builder.close_chunk(alloc)?;
+        let shared = self.share()?;
+        builder.add_chunk(alloc, shared)
     }
 
     fn edit_into(
@@ -200,7 +202,10 @@ impl Editable for Chunk {
 
 impl Editable for Segment {
     fn share_into(&self, alloc: Global, builder: &mut Builder) -> Result<(), NoMemory> {
-        builder.share_segment(alloc, self)
+        builder.close_chunk(alloc)?;
+        builder.close_segment(alloc)?;
+        builder.segments.push(self.share()?)?;
+        Ok(())
     }
 
     fn edit_into(
@@ -228,13 +233,12 @@ fn add_rest(alloc: Global, edits: &Edits<'_>, builder: &mut Builder) -> Result<(
 pub(crate) fn edited_segments(
     alloc: Global,
     segments: &Blocks<Segment>,
-    edits: Edits<'_>,
+    mut edits: Edits<'_>,
 ) -> Result<Vec<Segment>, NoMemory>
     ensures { IfOk result (λ v. laid v.items ≡ edited 0 edits.entry segments.now) }
 {
     // Read for what `len` ensures: a u32 counts the features.
     let _count = segments.len();
-    let mut edits = edits;
     let mut builder = Builder::new(alloc);
     edit_blocks(alloc, segments, 0, &mut edits, &mut builder)?;
     add_rest(alloc, &edits, &mut builder)?;

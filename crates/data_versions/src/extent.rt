@@ -5,7 +5,6 @@ ghost use Rattle.data_versions.specs.inner.Extents.{IsIn, Holds};
 ghost use Rattle.data_versions.specs.inner.Questions.{answers};
 
 use crate::question::Question;
-use crate::shared::SharedFeature;
 use geo_model::Bounds;
 
 /// Two ids, between which those of some features lie, and a box in which the features lie. It stands beside a
@@ -18,29 +17,16 @@ pub(crate) struct Extent {
 }
 
 /// The extent of no features.
-pub(crate) fn no_extent() -> Extent {
-    Extent {
-        least: u64::MAX,
-        greatest: 0,
-        bounds: Bounds {
-            west: u32::MAX,
-            north: u32::MAX,
-            east: 0,
-            south: 0,
-        },
-    }
-}
-
-/// The extent of the one feature.
-pub(crate) fn extent_of(feature: &SharedFeature) -> Extent
-    ensures { IsIn result feature.now }
-{
-    Extent {
-        least: feature.id(),
-        greatest: feature.id(),
-        bounds: feature.bbox(),
-    }
-}
+pub(crate) const NO_EXTENT: Extent = Extent {
+    least: u64::MAX,
+    greatest: 0,
+    bounds: Bounds {
+        west: u32::MAX,
+        north: u32::MAX,
+        east: 0,
+        south: 0,
+    },
+};
 
 impl Extent {
     /// The least extent that holds both.

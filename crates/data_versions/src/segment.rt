@@ -6,7 +6,7 @@ ghost use Rattle.data_versions.specs.inner.Parts.{laid};
 use crate::block::Block;
 use crate::blocks::Blocks;
 use crate::chunk::Chunk;
-use crate::extent::{Extent, no_extent};
+use crate::extent::{Extent, NO_EXTENT};
 use crate::question::Question;
 use crate::shared::SharedFeature;
 use farm_base::NoMemory;
@@ -38,7 +38,7 @@ impl Model for Segment {
 fn extent_over(chunks: &[Chunk]) -> Extent
     ensures { All (IsIn result) (laid chunks.now) }
 {
-    let mut extent = no_extent();
+    let mut extent = NO_EXTENT;
     for chunk in chunks {
         extent = extent.with(chunk.extent());
     }

@@ -1,6 +1,8 @@
 //! The slots of a layer while an update changes it.
 ghost use Rattle.std.specs.Prelude.{◌≡◌, ◌<◌, ◌∷◌, ◌++◌, [], length, map, set, get_or, Some, None, IfOk, OnOk, OnErr};
 ghost use Rattle.std.specs.Option.{option_copied};
+ghost use Rattle.std.specs.Ordering.{nat_cmp};
+ghost use Rattle.std.specs.BTreeMap.{Updates};
 ghost use Rattle.data_versions.specs.inner.Parts.{laid};
 ghost use Rattle.data_versions.specs.inner.Slots.{standing, slot_id};
 
@@ -34,13 +36,16 @@ impl<'a> Model for Slots<'a> {
     ghost invariant = { λ s. IsPutWithin s.put.entries s.layer.now.features s.count };
 }
 
-fn id_of(feature: Option<&Feature>) -> Option<u64>
-    ensures { result ≡ slot_id (option_copied feature.entry) }
+fn put_in<'a>(
+    put: &mut BTreeMap<u32, Option<&'a Feature>>,
+    number: u32,
+    feature: Option<&'a Feature>,
+) -> Result<(), NoMemory>
+    ensures done { OnOk result (Updates nat_cmp put.old put.new number (Some feature.entry)) }
+    ensures same { OnErr result (put.new.entries ≡ put.old.entries) }
 {
-    match feature {
-        Some(feature) => Some(feature.id()),
-        None => None,
-    }
+    put.insert(number, feature)?;
+    Ok(())
 }
 
 impl<'a> Slots<'a> {
@@ -60,11 +65,8 @@ impl<'a> Slots<'a> {
         ensures { result ≡ slot_id (get_or self.now i None) }
     {
         match self.put.get(&i).copied() {
-            Some(put) => id_of(put),
-            None => match self.layer.segments().get(i) {
-                Some(shared) => Some(shared.id()),
-                None => None,
-            },
+            Some(put) => Some(put?.id()),
+            None => Some(self.layer.segments().get(i)?.id()),
         }
     }
 
@@ -74,7 +76,7 @@ impl<'a> Slots<'a> {
         ensures done { OnOk result (self.new ≡ set self.old i (option_copied feature.entry)) }
         ensures same { OnErr result (self.new ≡ self.old) }
     {
-        self.put.insert(i, feature)?;
+        put_in(&mut self.put, i, feature)?;
         Ok(())
     }
 
@@ -93,7 +95,7 @@ impl<'a> Slots<'a> {
         if self.count == u32::MAX {
             return Err(NoMemory);
         }
-        self.put.insert(self.count, feature)?;
+        put_in(&mut self.put, self.count, feature)?;
         self.count += 1;
         Ok(())
     }

@@ -1,8 +1,8 @@
 //! Data that never change and are shared: snapshots, and views of their layers.
-ghost use Rattle.std.specs.Prelude.{◌≡◌, ◌≤◌, IfOk, All, length, slice_get};
+ghost use Rattle.std.specs.Prelude.{◌≡◌, ◌≤◌, IfOk, length, slice_get};
 ghost use Rattle.std.specs.Option.{option_copied};
 ghost use Rattle.std.specs.Arc.{arc_value};
-ghost use Rattle.plain_shapes.specs.Data.{IsLayer, IsDataset, layer_named, features_named};
+ghost use Rattle.plain_shapes.specs.Data.{IsDataset, features_named};
 ghost use Rattle.data_versions.specs.Near.{place_of, next_near, all_near};
 ghost use Rattle.data_versions.specs.Shared.{shared_layers};
 ghost use Rattle.data_versions.specs.inner.Parts.{laid};
@@ -12,6 +12,7 @@ use crate::builder::Builder;
 use crate::chunked::ChunkedLayer;
 use crate::dataset::{Dataset, Layer};
 use crate::finder::LayerFinder;
+use crate::question::Question;
 use crate::segment::Segment;
 use crate::shared::SharedFeature;
 use crate::walk::NearFeatures;
@@ -56,18 +57,7 @@ fn share_layer(alloc: Global, layer: Layer) -> Result<Arc<ChunkedLayer>, NoMemor
 {
     let name = layer.name;
     let segments = segments_of(alloc, layer.features)?;
-    let chunked = ChunkedLayer::of(alloc, name, segments)?;
-    Ok(Arc::new(alloc, chunked)?)
-}
-
-fn share_layers(alloc: Global, layers: Vec<Layer>) -> Result<Vec<Arc<ChunkedLayer>>, NoMemory>
-    ensures { IfOk result (λ shared. shared_layers shared.items ≡ layers.items) }
-{
-    let mut shared = Vec::with_capacity(alloc, layers.len())?;
-    for layer in layers {
-        shared.push(share_layer(alloc, layer)?)?;
-    }
-    Ok(shared)
+    ChunkedLayer::shared(alloc, name, segments)
 }
 
 impl Snapshot {
@@ -75,7 +65,11 @@ impl Snapshot {
     pub fn first(alloc: Global, dataset: Dataset) -> Result<Snapshot, NoMemory>
         ensures { IfOk result (λ s. s ≡ dataset) }
     {
-        let shared = share_layers(alloc, dataset.into_layers())?;
+        let layers = dataset.into_layers();
+        let mut shared = Vec::with_capacity(alloc, layers.len())?;
+        for layer in layers {
+            shared.push(share_layer(alloc, layer)?)?;
+        }
         Snapshot::of(alloc, shared)
     }
 
@@ -110,10 +104,13 @@ impl Snapshot {
     pub fn layer(&self, name: &str) -> Option<LayerView<'_>>
         ensures { result ≡ features_named self.now name.now }
     {
-        match find_layer(self.layers.as_slice(), name) {
-            Some(layer) => Some(LayerView { layer }),
-            None => None,
+        for layer in self.shared() {
+            let layer: &ChunkedLayer = layer;
+            if layer.name() == name {
+                return Some(LayerView { layer });
+            }
         }
+        None
     }
 
     /// A finder of features by their ids for each layer, in the layers' order.
@@ -121,35 +118,14 @@ impl Snapshot {
         ensures each { IfOk result (λ finders. finders.items ≡ self.now) }
         ensures valid { IsDataset self.now }
     {
-        finders_of(alloc, self.layers.as_slice())
-    }
-}
-
-fn finders_of<'a>(
-    alloc: Global,
-    shared: &'a [Arc<ChunkedLayer>],
-) -> Result<Vec<LayerFinder<'a>>, NoMemory>
-    requires { All IsLayer (shared_layers shared.now) }
-    ensures { IfOk result (λ finders. finders.items ≡ shared_layers shared.now) }
-{
-    let mut finders = Vec::with_capacity(alloc, shared.len())?;
-    for layer in shared {
-        let layer: &'a ChunkedLayer = layer;
-        finders.push(LayerFinder::of(layer))?;
-    }
-    Ok(finders)
-}
-
-fn find_layer<'a>(shared: &'a [Arc<ChunkedLayer>], name: &str) -> Option<&'a ChunkedLayer>
-    ensures { option_copied result ≡ layer_named (shared_layers shared.now) name.now }
-{
-    for layer in shared {
-        let layer: &ChunkedLayer = layer;
-        if layer.name() == name {
-            return Some(layer);
+        let shared = self.shared();
+        let mut finders = Vec::with_capacity(alloc, shared.len())?;
+        for layer in shared {
+            let layer: &ChunkedLayer = layer;
+            finders.push(LayerFinder::of(layer))?;
         }
+        Ok(finders)
     }
-    None
 }
 
 /// A look at one layer of a snapshot, which contracts see as the list of its features. Its calls take no
@@ -206,7 +182,7 @@ impl<'a> LayerView<'a> {
             east,
             south,
         };
-        self.layer.next_near(from, around)
+        self.layer.segments().find(from, Question::IsNear(around))
     }
 
     /// A walk over the features whose bounding box, borders included, has a point in common with the

@@ -1,31 +1,15 @@
 //! An update gives the next snapshot.
-ghost use Rattle.std.specs.Prelude.{◌≡◌, ◌≢◌, ◌≤◌, length, position, All, IfOk, OnOk, IfErr, Some, None, Ok, Err};
+ghost use Rattle.std.specs.Prelude.{◌≡◌, ◌≢◌, ◌≤◌, length, position, IfOk, OnOk, IfErr, Some, None, Ok, Err};
 ghost use Rattle.std.specs.Str.{bytes_eq};
-ghost use Rattle.plain_shapes.specs.Data.{IsLayer, names_of, layers_after, change_fault, update_result};
-ghost use Rattle.data_versions.specs.Shared.{shared_layers};
-ghost use Rattle.plain_shapes.specs.Limits.{most_features};
+ghost use Rattle.std.specs.List.{IsDistinct};
+ghost use Rattle.plain_shapes.specs.Data.{names_of, layers_after, change_fault, update_result};
+ghost use Rattle.plain_shapes.specs.Limits.{most_features, most_data_layers};
 
-use crate::chunked::ChunkedLayer;
 use crate::dataset::{Change, Update};
 use crate::edited::{EditedLayer, no_memory};
 use crate::snapshot::Snapshot;
 use farm_base::{ApplyFault, NoMemory};
 use std::alloc::Global;
-use std::sync::Arc;
-
-fn edited_layers<'a>(
-    alloc: Global,
-    shared: &'a [Arc<ChunkedLayer>],
-) -> Result<Vec<EditedLayer<'a>>, NoMemory>
-    requires { All IsLayer (shared_layers shared.now) }
-    ensures { IfOk result (λ edited_layers. edited_layers.items ≡ shared_layers shared.now) }
-{
-    let mut edited_layers = Vec::with_capacity(alloc, shared.len())?;
-    for layer in shared {
-        edited_layers.push(EditedLayer::of(layer))?;
-    }
-    Ok(edited_layers)
-}
 
 fn place_named(edited_layers: &[EditedLayer<'_>], name: &str) -> Option<usize>
     ensures { result ≡ position (λ l. bytes_eq l.name name.now) edited_layers.now }
@@ -75,18 +59,16 @@ fn change_all<'a>(
     Ok(())
 }
 
-fn finish(
-    alloc: Global,
-    edited_layers: &[EditedLayer<'_>],
-) -> Result<Vec<Arc<ChunkedLayer>>, NoMemory>
-    ensures same { IfOk result (λ shared. shared_layers shared.items ≡ edited_layers.now) }
-    ensures valid { OnOk result (All IsLayer edited_layers.now) }
+fn finish(alloc: Global, edited_layers: &[EditedLayer<'_>]) -> Result<Snapshot, NoMemory>
+    requires few { length edited_layers.now ≤ most_data_layers }
+    requires distinct { IsDistinct bytes_eq (names_of edited_layers.now) }
+    ensures { IfOk result (λ next. next ≡ edited_layers.now) }
 {
     let mut shared = Vec::with_capacity(alloc, edited_layers.len())?;
     for edited in edited_layers {
         shared.push(edited.finish(alloc)?)?;
     }
-    Ok(shared)
+    Snapshot::of(alloc, shared)
 }
 
 /// The snapshot after the update's changes in order, within each the removals in order and then the puts in
@@ -100,8 +82,7 @@ pub fn apply(alloc: Global, old: &Snapshot, update: &Update) -> Result<Snapshot,
     ensures refused { IfErr result
         (λ e. e ≢ ApplyFault.NoMemory → update_result update.now old.now ≡ Err e) }
 {
-    let mut edited_layers = edited_layers(alloc, old.shared()).map_err(no_memory)?;
+    let mut edited_layers = EditedLayer::all(alloc, old.shared()).map_err(no_memory)?;
     change_all(alloc, edited_layers.as_mut_slice(), update.changes())?;
-    let shared = finish(alloc, edited_layers.as_slice()).map_err(no_memory)?;
-    Snapshot::of(alloc, shared).map_err(no_memory)
+    finish(alloc, edited_layers.as_slice()).map_err(no_memory)
 }

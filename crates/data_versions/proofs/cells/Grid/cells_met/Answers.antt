@@ -6,5 +6,4 @@ returns-clause-marks c = rw (← c.self.view_is) (marks_from c.self.inside.bound
     (record { top = c.part_at-top.result; bottom = c.part_at-bottom.result; columns = c.columns_between.result })
     c.max-west.result c.min-east.result c.max-north.result c.min-south.result
     c.part_at-first.result c.part_at-last.result c.max-west.ensures c.min-east.ensures c.max-north.ensures c.min-south.ensures
-    (rw c.self.invariant.0 at c.part_at-first.ensures.value) (rw c.self.invariant.0 at c.part_at-last.ensures.value)
-    (rw c.self.invariant.1 at c.part_at-top.ensures.value) (rw c.self.invariant.1 at c.part_at-bottom.ensures.value) c.columns_between.ensures)
+    c.part_at-first.ensures.value c.part_at-last.ensures.value c.part_at-top.ensures.value c.part_at-bottom.ensures.value c.columns_between.ensures)

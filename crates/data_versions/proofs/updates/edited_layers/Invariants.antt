@@ -1,7 +1,0 @@
--- An edited layer stands for each layer so far.
-use Rattle.std.proofs.Common.{◌≡◌, take}
-use Rattle.data_versions.specs.Shared.{shared_layers}
-use Rattle.data_versions.proofs.updates.edited_layers.Given as goal
-
-abbrev pub invariant-loop-layer : goal.invariant-loop-layer
-invariant-loop-layer l = l.edited_layers.items ≡ shared_layers (take l.layer-index l.shared)
