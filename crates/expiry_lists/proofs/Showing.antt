@@ -11,7 +11,6 @@ use Rattle.expiry_lists.specs.inner.Keeping.{IsKept}
 use Rattle.expiry_lists.specs.inner.Nodes.{NodeTable, has_node, has_spot, node_of, node_mark, place_of, shown_of, IsTree}
 use Rattle.expiry_lists.specs.inner.Waking.{path_len, Wakes}
 use Rattle.expiry_lists.specs.inner.Tiles.{is_of_maps}
-use Rattle.expiry_lists.specs.inner.Walks.{Walks}
 use Rattle.expiry_lists.proofs.Finding.{Distinct, Marked, all_marked, marked_there, mark_found}
 use Rattle.expiry_lists.proofs.Bits.{no_bit}
 use Rattle.expiry_lists.proofs.Dirtying.{AgreeOn}
@@ -66,16 +65,6 @@ kept_after groups groups' old woken new place mask kept wakes same tree others a
 pub all_listed : (groups : List ℕ) (t : NodeTable) → Distinct t.entries → IsKept groups t → (p : Key → Bool) → AgreeOn (λ k. is_of_maps groups (place_of k) && p k) p (shown_of t.entries)
 all_listed groups t apart kept p =
     each-map (Marked t.entries) _ (shown_of t.entries) (λ s is clean. ap (λ b. b && p s.key) (kept.listed (place_of s.key) (kept.tree.spotted s.key (marked_there (node_of t.entries s.key) s.mark is)))) (all_marked t.entries apart)
-
--- and what is kept after an expiry
-pub kept_walked : {test : Key → Bool} {a b : NodeTable} {n : ℕ} (groups : List ℕ) → IsKept groups a → Walks test a b n → IsKept groups b
-kept_walked groups kept w = record { tree = w.tree; listed = λ p there. kept.listed p (sym (w.spotted p) ∙ there) }
-
-pub kept_same : {a b : NodeTable} (groups : List ℕ) → IsKept groups a → IsTree b.entries b.spots → b.spots ≡ a.spots → IsKept groups b
-kept_same groups kept tree same = record { tree = tree; listed = λ p there. kept.listed p (sym (ap (λ ss. has_spot ss p) same) ∙ there) }
-
-pub kept_made : {a b : NodeTable} (groups groups' : List ℕ) → IsKept groups a → b.entries ≡ a.entries → b.spots ≡ a.spots → groups' ≡ groups → IsKept groups' b
-kept_made {a} {b} groups groups' kept entries spots same = subst (λ gs. IsKept gs b) (sym same) (kept_same groups kept (subst (λ es. IsTree es b.spots) (sym entries) (subst (λ ss. IsTree a.entries ss) (sym spots) kept.tree)) spots)
 
 pub none_kept : (t : NodeTable) → t.entries ≡ [] → t.spots ≡ [] → IsKept [] t
 none_kept t entries spots = record {

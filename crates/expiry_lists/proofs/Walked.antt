@@ -110,7 +110,3 @@ walks_clean {test} {a} {b} before after w k clean = go (test k) (node_mark (node
     go true (Some m) h = cc
     go false None h = cc
     go false (Some m) h = (refl, h)
-
--- the expiry of a key that is told by an equation
-pub walks_of : {a b : NodeTable} {n : ℕ} (r key : Key) → r ≡ key → Walks (same_key r) a b n → Walks (same_key key) a b n
-walks_of {a} {b} {n} r key is w = subst (λ (x : Key). Walks (same_key x) a b n) is w

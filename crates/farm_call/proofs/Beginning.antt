@@ -81,18 +81,6 @@ module _ {D : Type 0} (state : D → Outside StoreTold) (plan : FarmPlan) where
           after : IsAfter state new []
           after = after_put middle began.saved old new began.begins began.short empties.1 empties.2
 
-      -- what was found is refused
-      pub cannot_read : (back : D) (why : Stop) → back ≡ middle → Refuses plan found why → CannotBegin (state store) plan true (state back) why
-      cannot_read back (stop.Refused line) same refuses =
-          (refl, refuses.0, record { found = found; stands = stands; said = refuses.1 }, refuses.2, ap state same ∙ shows)
-      cannot_read back stop.NoMemory same refuses = ap state same ∙ shows
-      cannot_read back stop.Words same refuses = refuses
-      cannot_read back (stop.Unreadable line) same refuses = refuses
-      cannot_read back stop.SinkFailed same refuses = refuses
-      cannot_read back stop.StoreFailed same refuses = absurd refuses
-      cannot_read back stop.PortsFailed same refuses = refuses
-      cannot_read back stop.TurnsUsedUp same refuses = refuses
-
       -- what was found could not be emptied
       pub cannot_empty : (old : FarmSeen D) (back : D) (why : Stop) → BeganWith state plan middle found old → Empties state old (Err (back, why)) → CannotBegin (state store) plan true (state back) why
       cannot_empty old back why began empties = by_fault empties.0 why empties.1 empties.2
@@ -110,9 +98,6 @@ module _ {D : Type 0} (state : D → Outside StoreTold) (plan : FarmPlan) where
       pub begun_by : (old : FarmSeen D) (result : Result (FarmSeen D) (D × Stop)) → BeganWith state plan middle found old → Empties state old result → Begins state plan true store result
       begun_by old (Ok new) began empties = begun_saved old new began empties
       begun_by old (Err back) began empties = cannot_empty old back.0 back.1 began empties
-
-      pub cannot_by : (back : D × Stop) → BeganBy state plan middle found (Err back) → CannotBegin (state store) plan true (state back.0) back.1
-      cannot_by back began = cannot_read back.0 back.1 began.0 began.1
 
     -- a farm that is to begin anew did not begin
     pub cannot_start : (back : D) (why : Stop) → middle ≡ store → back ≡ middle → Refuses plan None why → CannotBegin (state store) plan false (state back) why

@@ -7,7 +7,7 @@ use Rattle.std.proofs.lemmas.Bool.{cases_lt, and_parts, eqb-true, leb-true}
 use Rattle.std.proofs.lemmas.List.{take_all, drop_all, append-nil}
 use Rattle.std.proofs.Math.Bool.{or_assoc}
 use Rattle.tile_render.specs.declared.pieces.Piece.{Piece}
-use Rattle.tile_render.specs.inner.Pieces.{row_of, start_of, IsPiece, has}
+use Rattle.tile_render.specs.inner.Pieces.{row_of, start_of, has}
 use Rattle.tile_render.proofs.Joining.{merged_has}
 
 or_turned : (a b : Bool) → (a || b) ≡ (b || a)
@@ -55,14 +55,6 @@ module _ (p q : Piece) (met : (nat_eq (row_of p) (row_of q) && (nat_le (start_of
       turned : {X Y : Type 0} → X ⊎ Y → Y ⊎ X
       turned (inl x) = inr x
       turned (inr y) = inl y
-
-  pub both_inside : (cols rows : ℕ) → IsPiece cols rows p → IsPiece cols rows q → IsPiece cols rows (both_of p q)
-  both_inside cols rows a b = elim (cases_lt q.place p.place) [
-    | inl lt ↦ (let first : min p.place q.place ≡ q.place = omega (arith, lt) in
-        record { row = omega (arith, first, b.row); order = omega (arith, first, b.order); end = omega (arith, a.end, b.end) })
-    | inr ge ↦ (let first : min p.place q.place ≡ p.place = omega (arith, ge) in
-        record { row = omega (arith, first, a.row); order = omega (arith, first, a.order); end = omega (arith, a.end, b.end) })
-  ]
 
 -- one element of a list put in place of another, which passes where that one or something else does
 pub set_any : {X : Type 0} (test : X → Bool) (xs : List X) (k : ℕ) (x y : X) (more : Bool) → k < length xs → x ≡ get_or xs k x → test y ≡ (test x || more) → list_any test (set xs k y) ≡ (list_any test xs || more)
