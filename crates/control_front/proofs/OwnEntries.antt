@@ -1,10 +1,10 @@
 -- The entries of the control front are a front's.
 use Rattle.std.proofs.Common.{List, refl}
 use Rattle.plain_world.specs.declared.world.Tile.{Tile}
-use Rattle.front_leaves.specs.Fronts.{IsFront}
-use Rattle.front_leaves.proofs.Laws.{is_foreign, each_of_front, alone}
-use Rattle.control_handler.specs.Control.{control_rules}
-use Rattle.control_handler.proofs.Sorts as control
+use Rattle.front_loop.specs.Leaves.{IsFront}
+use Rattle.front_loop.proofs.Leaves.{is_foreign, each_of_front, alone}
+use Rattle.control_front.specs.Control.{control_rules}
+use Rattle.control_front.proofs.Sorts as control
 
 none_foreign : control.PassesNone (is_foreign 2)
 none_foreign = record {

@@ -1,19 +1,18 @@
 //! The front's call.
 ghost use Rattle.std.specs.Prelude.{◌≡◌, ◌+◌, []};
 ghost use Rattle.farm_base.specs.Outside.{Counted};
-ghost use Rattle.port_events.specs.declared.ends.FrontEnd.TheVariants as ended;
+ghost use Rattle.reactor_ports.specs.declared.ends.FrontEnd.TheVariants as ended;
 ghost use Rattle.front_loop.specs.Serving.{FrontRun};
 ghost use Rattle.turn_cell.specs.SeatStates.{IsSeatOf, Knows, SameSeat};
 ghost use Rattle.farm_shared.specs.Seats.{plain};
-ghost use Rattle.control_handler.specs.Control.{control_rules};
+ghost use Rattle.control_front.specs.Control.{control_rules};
 
-use control_handler::Control;
+use crate::Control;
 use expiry_lists::TileList;
 use farm_base::Bell;
 use farm_shared::{Alarms, Seat, SharedFarm};
-use front_adapter::{FarmAdapter, serve_shared};
-use front_loop::Context;
-use port_events::{FrontDone, Ports};
+use front_loop::{Context, FarmAdapter, serve_shared};
+use reactor_ports::{FrontDone, Ports};
 use std::alloc::Global;
 use std::sync::Wait;
 use tile_store::TileStore;

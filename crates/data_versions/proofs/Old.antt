@@ -1,11 +1,13 @@
 -- Slots in which the features from the start stand.
 use Rattle.std.proofs.Common.{◌≡◌, ℕ, zero, suc, List, [], ◌∷◌, get_or, refl, sym, ◌∙◌, ap, subst, inr, arith}
-use Rattle.std.specs.Prelude.{Bool, true, false, nat_eq, map, Some, None}
+use Rattle.std.specs.Prelude.{slice_get, Bool, true, false, nat_eq, map, Some, None}
 use Rattle.std.specs.Ordering.{nat_cmp}
 use Rattle.std.specs.BTreeMap.{BTreeMap, is_at, IsEmpty}
 use Rattle.std.specs.Map.{lookup}
 use Rattle.std.specs.List.{AllByRecursion, IsDistinct}
 use Rattle.std.proofs.lemmas.Bool.{eq-eqb, eqb-true}
+use Rattle.std.proofs.lemmas.List.Quantifiers.{position-Some}
+use Rattle.std.proofs.lemmas.Option.{slice_get-get_or}
 use Rattle.std.proofs.lemmas.Map.Keys.{IsDistinct-head, IsDistinct-tail}
 use Rattle.plain_shapes.specs.Features.{Feature}
 use Rattle.plain_shapes.specs.Data.{ids_of}
@@ -45,3 +47,10 @@ knows_first places features empty distinct =
       held = λ q j there. inr (at q j there);
       one = λ q i j a b. some_same i j (sym (at q i a) ∙ at q j b);
     }
+
+-- the feature of an id's place has the id
+pub place_holds : (features : List Feature) (id k : ℕ) → place_of features id ≡ Some k → slot_id (slice_get features k) ≡ Some id
+place_holds [] id k at = cc
+place_holds (f ∷ features) id k at =
+    let found = position-Some (λ (g : Feature). nat_eq g.id id) (f ∷ features) k f at in
+    ap slot_id (slice_get-get_or (f ∷ features) k f found.0) ∙ ap Some (eqb-true (get_or (f ∷ features) k f).id id found.1)

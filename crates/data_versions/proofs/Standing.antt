@@ -1,6 +1,6 @@
 -- What a removal and a put do to the slots of a layer, and to the places of its ids.
 use Rattle.std.proofs.Common.{◌≡◌, ℕ, zero, suc, ◌+◌, ◌<◌, List, [], ◌∷◌, ◌++◌, length, get_or, set, refl, sym, ◌∙◌, ap, subst, inl, inr, length-append, arith}
-use Rattle.std.specs.Prelude.{◌⊎◌, true, false, ◌||◌, nat_eq, Option, Some, None}
+use Rattle.std.specs.Prelude.{◌⊎◌, true, false, nat_eq, Option, Some, None}
 use Rattle.std.specs.Ordering.{nat_cmp}
 use Rattle.std.specs.BTreeMap.{BTreeMap, get, Updates, is_at}
 use Rattle.std.specs.Map.{lookup}

@@ -37,10 +37,11 @@ impl<'a> Model for LayerEdit<'a> {
 
     ghost Value = { List Feature };
 
-    ghost view = { λ b. standing b.slots };
+    ghost view = { λ b. standing b.slots.slots };
 
-    ghost invariant = { λ b. KnowsPlaces b.places b.finder.features b.slots
-        × (b.count ≡ length (standing b.slots)) × (b.count ≤ most_features) };
+    ghost invariant = { λ b. KnowsPlaces b.places b.finder.features b.slots.slots
+        × (b.count ≡ length (standing b.slots.slots)) × (b.count ≤ most_features)
+        × (b.slots.first ≡ b.finder.features) };
 }
 
 impl<'a> LayerEdit<'a> {

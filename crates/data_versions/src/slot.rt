@@ -9,14 +9,16 @@ use std::collections::BTreeMap;
 
 // The slot of the layer's feature of the id, if the id still stands there.
 fn first_slot(finder: &LayerFinder<'_>, slots: &Slots<'_>, id: u64) -> Option<u32>
-    ensures found { IfSome result (λ k. slot_id (get_or slots.now k None) ≡ Some id) }
+    requires { slots.now.first ≡ finder.now.features }
+    ensures found { IfSome result (λ k. slot_id (get_or slots.now.slots k None) ≡ Some id) }
     ensures none { result ≡ None → (k : ℕ) → place_of finder.now.features id ≡ Some k
-        → slot_id (get_or slots.now k None) ≡ Some id → ⊥ }
+        → slot_id (get_or slots.now.slots k None) ≡ Some id → ⊥ }
 {
     let place = finder.place_of(id)?;
-    match slots.id_at(place) {
-        Some(there) if there == id => Some(place),
-        _ => None,
+    if slots.holds(place, id) {
+        Some(place)
+    } else {
+        None
     }
 }
 
@@ -27,9 +29,10 @@ pub(crate) fn slot_of(
     slots: &Slots<'_>,
     id: u64,
 ) -> Option<u32>
-    requires { KnowsPlaces places.now finder.now.features slots.now }
-    ensures found { IfSome result (λ k. slot_id (get_or slots.now k None) ≡ Some id) }
-    ensures none { result ≡ None → StandsNowhere slots.now id }
+    requires knows { KnowsPlaces places.now finder.now.features slots.now.slots }
+    requires first { slots.now.first ≡ finder.now.features }
+    ensures found { IfSome result (λ k. slot_id (get_or slots.now.slots k None) ≡ Some id) }
+    ensures none { result ≡ None → StandsNowhere slots.now.slots id }
 {
     if let Some(place) = places.get(&id).copied() {
         return Some(place);

@@ -1,10 +1,11 @@
 -- Bits of words: of two words joined or met, of one of which some are taken, and of a map's own.
-use Rattle.std.proofs.Common.{◌≡◌, ℕ, ◌-◌, ◌^◌, ◌<◌, ◌≤◌, ◌==◌, min, max, Bool, true, false, ◌&&◌, ◌||◌, not, refl, sym, ap, ap₂, ◌∙◌, inl, inr, ◌⊎◌, arith}
+use Rattle.std.proofs.Common.{◌≡◌, ◌≢◌, ℕ, ◌-◌, ◌^◌, ◌<◌, ◌≤◌, ◌==◌, min, max, cond, Bool, true, false, ◌&&◌, ◌||◌, not, refl, sym, ap, ap₂, ◌∙◌, inl, inr, ◌⊎◌, arith}
 use Rattle.std.specs.Int.{bit_at, bit_not, w64}
 use Rattle.std.specs.Prelude.{bit_and, bit_or}
-use Rattle.std.proofs.lemmas.Bool.{eqb-true, eq-eqb, cases_lt}
+use Rattle.std.proofs.lemmas.Bool.{eqb-true, eq-eqb, cases_eq, cases_lt, false_from_ne_true}
 use Rattle.std.proofs.lemmas.Bool.Decides.{nat_tests}
-use Rattle.std.proofs.lemmas.Nat.Bits.{bit_at_and, bit_at_or, bit_at_not, bit_at-lt, bit_at-zero, bit_at_above, bit_at_ones}
+use Rattle.std.proofs.lemmas.Nat.Bits.{bit_at_and, bit_at_or, bit_at_not, bit_at-lt, bit_at-zero, bit_at_above, bit_at_ones, bit_at-pow_same, bit_at-pow_other}
+use Rattle.std.proofs.lemmas.Nat.{pow_below}
 use Rattle.expiry_lists.specs.inner.Nodes.{has_bit}
 
 -- a bit of two words at once, and of one of them
@@ -44,6 +45,30 @@ no_bit i = ap (λ n. n == 1) (bit_at-zero i)
 
 pub all_bits : (i : ℕ) → i < 64 → has_bit (2 ^ 64 - 1) i ≡ true
 all_bits i low = eq-eqb (bit_at (2 ^ 64 - 1) i) 1 (bit_at_ones 64 i low)
+
+pub power_bit : (i b : ℕ) → has_bit (2 ^ i) b ≡ (b == i)
+power_bit i b = go (cases_eq b i)
+  where
+    go : (b ≡ i) ⊎ (b ≢ i) → has_bit (2 ^ i) b ≡ (b == i)
+    go (inl same) = ap (λ j. has_bit (2 ^ i) j) same ∙ (eq-eqb (bit_at (2 ^ i) i) 1 (bit_at-pow_same i) ∙ sym (eq-eqb b i same))
+    go (inr other) = ap (λ n. n == 1) (bit_at-pow_other i b other) ∙ sym (false_from_ne_true (b == i) (λ h. absurd (other (eqb-true b i h))))
+
+-- a word with one bit set or cleared
+pub bit_set : (word i : ℕ) (set : Bool) (b : ℕ) → i < 64 → b < 64 → has_bit (cond set (bit_or word (2 ^ i)) (bit_and word (bit_not w64 (2 ^ i)))) b ≡ cond (b == i) set (has_bit word b)
+bit_set word i true b few low = or_bit word (2 ^ i) b ∙ (ap (λ x. has_bit word b || x) (power_bit i b) ∙ go (has_bit word b) (b == i))
+  where
+    go : (x y : Bool) → (x || y) ≡ cond y true x
+    go true true = refl
+    go true false = refl
+    go false true = refl
+    go false false = refl
+bit_set word i false b few low = less_bit word (2 ^ i) b (pow_below i 64 few) low ∙ (ap (λ x. has_bit word b && not x) (power_bit i b) ∙ go (has_bit word b) (b == i))
+  where
+    go : (x y : Bool) → (x && not y) ≡ cond y false x
+    go true true = refl
+    go true false = refl
+    go false true = refl
+    go false false = refl
 
 -- two words without a bit in common, as the test of the meet says it
 pub none_met : (a b i : ℕ) → bit_and a b ≡ 0 → has_bit b i ≡ true → has_bit a i ≡ false

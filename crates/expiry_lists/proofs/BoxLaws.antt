@@ -10,10 +10,7 @@ use Rattle.plain_world.specs.Ancestors.{IsOver}
 use Rattle.geo_model.specs.declared.bounds.Bounds.{Bounds}
 use Rattle.expiry_lists.specs.Boxes.{Holds, is_near, comes_near}
 
--- a side is at most the world's, and a place is below those of the last zoom
-pub side_most : (z : ℕ) → side_at z ≤ 2 ^ 30
-side_most z = let a : 0 < 2 = omega arith in let b : 30 - z ≤ 30 = omega arith in pow-le-pow_right a b
-
+-- a place is below those of the last zoom
 pub few_places : (z x : ℕ) → z ≤ 18 → x < 2 ^ z → x < 2 ^ 18
 few_places z x few h =
     let most : 2 ^ z ≤ 2 ^ 18 = pow-le-pow_right (omega arith) few in

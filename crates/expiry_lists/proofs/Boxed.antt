@@ -1,7 +1,7 @@
 -- Expiries of the table's keys one after another, as far as they are in a box.
 use Rattle.std.proofs.Common.{◌≡◌, ℕ, zero, suc, ◌+◌, ◌<◌, ◌≤◌, Bool, true, false, ◌&&◌, ◌||◌, ◌==◌, cond, List, [], ◌∷◌, ◌++◌, length, take, get_or, Some, is_some, refl, sym, ap, ◌∙◌, subst, arith}
 use Rattle.std.specs.Prelude.{slice_get}
-use Rattle.std.specs.Map.{keys_of}
+use Rattle.std.specs.Map.{keys_of, lookup}
 use Rattle.std.proofs.lemmas.Bool.{and_from, and_parts, eqb-true, eq-eqb}
 use Rattle.std.proofs.lemmas.List.{take_all, take_more}
 use Rattle.std.proofs.lemmas.Map.Entries.{length-keys_of}
@@ -11,10 +11,9 @@ use Rattle.farm_history.specs.Plans.{same_key}
 use Rattle.farm_history.proofs.Lists.{each-map, each-all, any-append, same_key-true, same_key-self, same_key-sym}
 use Rattle.geo_model.specs.declared.bounds.Bounds.{Bounds}
 use Rattle.plain_world.specs.World.{meta_square}
-use Rattle.expiry_lists.specs.declared.nodes.Node.{Node}
 use Rattle.expiry_lists.specs.Boxes.{comes_near}
 use Rattle.expiry_lists.specs.Marks.{is_in_box, InBox}
-use Rattle.expiry_lists.specs.inner.Nodes.{NodeTable, node_of, has_node, shown_of, IsTree}
+use Rattle.expiry_lists.specs.inner.Nodes.{Node, NodeTable, node_of, has_node, shown_of, IsTree}
 use Rattle.expiry_lists.specs.inner.Tiles.{is_one_of}
 use Rattle.expiry_lists.specs.inner.Walks.{Walks}
 use Rattle.expiry_lists.proofs.BoxLaws.{holds_at, holds_from}
@@ -73,11 +72,11 @@ walks_key test keys now i key {a} {b} {c} {m} {n} same within at first second =
     both k = one_more (is_one_of (take i keys) k) (same_key key k) (test k) ∙ sym (ap (λ x. x && test k) (more k))
 
 -- the keys are those that have a node
-one_there : (es : List (Key × Node)) (k : Key) → has_node es k ≡ true → is_one_of (keys_of es) k ≡ true
+pub one_there : {X : Type 0} (es : List (Key × X)) (k : Key) → is_some (lookup (same_key k) es) ≡ true → is_one_of (keys_of es) k ≡ true
 one_there [] k there = there
-one_there (e ∷ es) k there = go (one_there es k) (same_key k e.0) refl there
+one_there {X} (e ∷ es) k there = go (one_there es k) (same_key k e.0) refl there
   where
-    go : (has_node es k ≡ true → is_one_of (keys_of es) k ≡ true) → (b : Bool) → same_key k e.0 ≡ b → is_some (cond b (Some e.1) (node_of es k)) ≡ true → (same_key e.0 k || is_one_of (keys_of es) k) ≡ true
+    go : (is_some (lookup (same_key k) es) ≡ true → is_one_of (keys_of es) k ≡ true) → (b : Bool) → same_key k e.0 ≡ b → is_some (cond b (Some e.1) (lookup (same_key k) es)) ≡ true → (same_key e.0 k || is_one_of (keys_of es) k) ≡ true
     go ih true same there = rw (same_key-sym e.0 k, same) refl
     go ih false other there = rw (same_key-sym e.0 k, other) (ih there)
 

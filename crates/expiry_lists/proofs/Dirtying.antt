@@ -101,18 +101,32 @@ unfolding weight
 no_weight p true none = rw (none refl) refl
 no_weight p false none = refl
 
-dirtied_marks-none : (p : Key → Bool) (ss : List Shown) → NoneOf p ss → ss ≡ dirtied_marks p ss
+pub dirtied_marks-none : (p : Key → Bool) (ss : List Shown) → NoneOf p ss → ss ≡ dirtied_marks p ss
 unfolding with_clean
 dirtied_marks-none p [] none = refl
 dirtied_marks-none p (s ∷ ss) none =
     ap₂ (λ (t : Shown) ts. t ∷ ts) (ap (λ b. with_clean s b) (sym (untouched (p s.key) s.mark.clean none.0))) (dirtied_marks-none p ss none.1)
 
-clean_marks-none : (p : Key → Bool) (ss : List Shown) → NoneOf p ss → 0 ≡ clean_marks p ss
+pub clean_marks-none : (p : Key → Bool) (ss : List Shown) → NoneOf p ss → 0 ≡ clean_marks p ss
 clean_marks-none p [] none = refl
 clean_marks-none p (s ∷ ss) none = omega (arith, clean-cons p s ss, no_weight (p s.key) s.mark.clean none.0, clean_marks-none p ss none.1)
 
 pub dirties_none : (p : Key → Bool) (a : List Shown) → NoneOf p a → Dirties p a a 0
 dirties_none p a none = record { marks = dirtied_marks-none p a none; counted = clean_marks-none p a none }
+
+-- Of two tests that nothing passes both, the counts add up.
+apart_weights : (p q c : Bool) → (p && q) ≡ false → weight (c && (p || q)) ≡ weight (c && p) + weight (c && q)
+unfolding weight
+apart_weights true true c apart = cc
+apart_weights true false true apart = refl
+apart_weights true false false apart = refl
+apart_weights false q true apart = omega arith
+apart_weights false q false apart = refl
+
+pub clean_marks-or : (p q : Key → Bool) → ((k : Key) → (p k && q k) ≡ false) → (ss : List Shown) → clean_marks (λ k. p k || q k) ss ≡ clean_marks p ss + clean_marks q ss
+clean_marks-or p q apart [] = refl
+clean_marks-or p q apart (s ∷ ss) =
+    omega (arith, clean-cons (λ k. p k || q k) s ss, clean-cons p s ss, clean-cons q s ss, apart_weights (p s.key) (q s.key) s.mark.clean (apart s.key), clean_marks-or p q apart ss)
 
 light : (b : Bool) → weight b ≤ 1
 unfolding weight

@@ -1,21 +1,28 @@
 -- What is shown, against what each key's node has.
-use Rattle.std.proofs.Common.{◌≡◌, ◌≤◌, Bool, true, false, ◌&&◌, cond, List, [], ◌∷◌, length, find, Option, Some, None, option_map, is_some, refl, sym, ap, ◌∙◌, subst, arith}
+use Rattle.std.proofs.Common.{◌≡◌, ◌≤◌, Bool, true, false, ◌&&◌, ◌||◌, cond, List, [], ◌∷◌, length, find, Option, Some, None, option_map, is_some, refl, sym, ap, ◌∙◌, subst, arith}
 use Rattle.std.specs.List.{AllByRecursion, IsDistinct, list_any}
-use Rattle.std.specs.Map.{set_value, keys_of}
+use Rattle.std.specs.Map.{keys_of}
 use Rattle.farm_history.specs.declared.keys.Key.{Key}
 use Rattle.farm_history.specs.declared.keys.Mark.{Mark}
 use Rattle.farm_history.specs.Plans.{same_key, AreApart}
 use Rattle.farm_history.specs.Lists.{Each}
 use Rattle.farm_history.proofs.Lists.{same_key-true, same_key-self, same_key-sym, each-map}
-use Rattle.expiry_lists.specs.declared.nodes.Node.{Node}
-use Rattle.expiry_lists.specs.Marks.{Shown, shown_key, mark_of, touched_by}
-use Rattle.expiry_lists.specs.inner.Nodes.{node_of, node_mark, is_clean, has_node, shown_before, shown_of}
-use Rattle.expiry_lists.specs.inner.Walks.{Dirties}
+use Rattle.expiry_lists.specs.Marks.{Shown, shown_key, mark_of, dirtied_marks, clean_marks}
+use Rattle.expiry_lists.specs.inner.Nodes.{Node, node_of, node_mark, is_clean, is_clean_at, has_node, shown_before, shown_of}
 use Rattle.expiry_lists.proofs.Dirtying.{NoneOf, dirties_none, dirties_here, dirties_other}
 
 -- no two of the table have one key
 abbrev pub Distinct : List (Key × Node) → Type 0
 Distinct es = IsDistinct same_key (keys_of es)
+
+-- what has a node is a key of the list
+pub there_listed : (k : Key) (es : List (Key × Node)) → has_node es k ≡ list_any (same_key k) (keys_of es)
+there_listed k [] = refl
+there_listed k (e ∷ es) = go (there_listed k es) (same_key k e.0)
+  where
+    go : has_node es k ≡ list_any (same_key k) (keys_of es) → (b : Bool) → is_some (cond b (Some e.1) (node_of es k)) ≡ (b || list_any (same_key k) (keys_of es))
+    go ih true = refl
+    go ih false = ih
 
 -- what no key of the list is has no node
 pub absent : (k : Key) (es : List (Key × Node)) → AllByRecursion (λ y. same_key k y ≡ false) (keys_of es) → node_of es k ≡ None
@@ -112,20 +119,17 @@ length-shown_of (e ∷ es) = go e.1.mark (length-shown_of es)
     go None ih = omega arith
     go (Some m) ih = omega arith
 
--- A write of the mark made dirty is the expiry of that key alone
-pub set-dirties : (es : List (Key × Node)) → Distinct es → (key : Key) (n w : Node) → node_of es key ≡ Some n → w.mark ≡ option_map (touched_by true) n.mark →
-    Dirties (same_key key) (shown_of es) (shown_of (set_value (same_key key) es w)) (cond (is_clean n.mark) 1 0)
+-- one key is clean, or none
+pub clean_marks-key : (es : List (Key × Node)) → Distinct es → (key : Key) → clean_marks (same_key key) (shown_of es) ≡ cond (is_clean_at es key) 1 0
 unfolding IsDistinct
-set-dirties [] apart key n w found same = cc
-set-dirties (e ∷ es) apart key n w found same = go (λ is. set-dirties es apart.1 key n w is same) (same_key key e.0) refl found
+clean_marks-key [] apart key = refl
+clean_marks-key (e ∷ es) apart key = go (clean_marks-key es apart.1 key) (same_key key e.0) refl e.1.mark refl
   where
-    go : (node_of es key ≡ Some n → Dirties (same_key key) (shown_of es) (shown_of (set_value (same_key key) es w)) (cond (is_clean n.mark) 1 0)) →
-        (b : Bool) → same_key key e.0 ≡ b → cond b (Some e.1) (node_of es key) ≡ Some n →
-        Dirties (same_key key) (shown_before e.0 e.1.mark (shown_of es)) (shown_of (cond b ((e.0, w) ∷ es) (e ∷ set_value (same_key key) es w))) (cond (is_clean n.mark) 1 0)
-    go ih true here is =
-        let own : n ≡ e.1 = cc in
-        let marks : n.mark ≡ e.1.mark = ap (λ (x : Node). x.mark) own in
-        rw same (rw marks (first e.1.mark))
+    go : clean_marks (same_key key) (shown_of es) ≡ cond (is_clean_at es key) 1 0 → (b : Bool) → same_key key e.0 ≡ b → (o : Option Mark) → e.1.mark ≡ o →
+        clean_marks (same_key key) (shown_before e.0 o (shown_of es)) ≡ cond (is_clean (node_mark (cond b (Some e.1) (node_of es key)))) 1 0
+    go ih false other None is = ih
+    go ih false other (Some m) is = sym (dirties_other (same_key key) (record { key = e.0; mark = m }) {xs = shown_of es} {ys = dirtied_marks (same_key key) (shown_of es)} other (record { marks = refl; counted = sym ih })).counted
+    go ih true here o is = first o ∙ ap (λ p. cond (is_clean p) 1 0) (sym is)
       where
         key_is : key ≡ e.0
         key_is = same_key-true key e.0 here
@@ -133,27 +137,6 @@ set-dirties (e ∷ es) apart key n w found same = go (λ is. set-dirties es apar
         none : NoneOf (same_key key) (shown_of es)
         none = each-map _ _ (shown_of es) (λ s apart' clean. subst (λ (x : Key). same_key x s.key ≡ false) (sym key_is) apart') (shown_apart e.0 es apart.0)
 
-        first : (o : Option Mark) → Dirties (same_key key) (shown_before e.0 o (shown_of es)) (shown_before e.0 (option_map (touched_by true) o) (shown_of es)) (cond (is_clean o) 1 0)
-        first None = dirties_none (same_key key) (shown_of es) none
-        first (Some m) = dirties_here (same_key key) (record { key = e.0; mark = m }) here (dirties_none (same_key key) (shown_of es) none)
-    go ih false other is = rest e.1.mark (ih is)
-      where
-        rest : (o : Option Mark) → Dirties (same_key key) (shown_of es) (shown_of (set_value (same_key key) es w)) (cond (is_clean n.mark) 1 0) →
-            Dirties (same_key key) (shown_before e.0 o (shown_of es)) (shown_before e.0 o (shown_of (set_value (same_key key) es w))) (cond (is_clean n.mark) 1 0)
-        rest None ih = ih
-        rest (Some m) ih = dirties_other (same_key key) (record { key = e.0; mark = m }) other ih
-
--- where the key has no node, there is nothing to expire
-pub absent_dirties : (es : List (Key × Node)) → Distinct es → (key : Key) → node_of es key ≡ None → Dirties (same_key key) (shown_of es) (shown_of es) 0
-absent_dirties es apart key gone = dirties_none (same_key key) (shown_of es) (each-map (Marked es) _ (shown_of es) other (all_marked es apart))
-  where
-    other : (s : Shown) → Marked es s → s.mark.clean ≡ true → same_key key s.key ≡ false
-    other s is clean = go (same_key key s.key) refl
-      where
-        go : (b : Bool) → same_key key s.key ≡ b → same_key key s.key ≡ false
-        go true same =
-            let own : key ≡ s.key = same_key-true key s.key same in
-            let here : node_mark (node_of es key) ≡ Some s.mark = ap (λ (x : Key). node_mark (node_of es x)) own ∙ is in
-            let nothing : node_mark (node_of es key) ≡ None = ap node_mark gone in
-            cc
-        go false apart' = apart'
+        first : (o : Option Mark) → clean_marks (same_key key) (shown_before e.0 o (shown_of es)) ≡ cond (is_clean o) 1 0
+        first None = sym (dirties_none (same_key key) (shown_of es) none).counted
+        first (Some m) = sym (dirties_here (same_key key) (record { key = e.0; mark = m }) here (dirties_none (same_key key) (shown_of es) none)).counted

@@ -2,6 +2,7 @@ pub mod Above
 pub mod Bits
 pub mod BoxLaws
 pub mod Boxed
+pub mod Counting
 pub mod Finding
 pub mod Lines
 pub mod Live
@@ -11,6 +12,7 @@ pub mod Over
 pub mod Placing
 pub mod Quarters
 pub mod Saving
+pub mod Seen
 pub mod Settling
 pub mod Spots
 pub mod Showing

@@ -4,11 +4,10 @@ use Rattle.std.proofs.lemmas.Bool.{or_cases, and_parts, false_from_ne_true}
 use Rattle.farm_history.specs.declared.keys.Key.{Key}
 use Rattle.farm_history.specs.Plans.{same_key}
 use Rattle.farm_history.proofs.Lists.{each-all, each-map, same_key-true}
-use Rattle.expiry_lists.specs.declared.nodes.Node.{Node}
 use Rattle.expiry_lists.specs.Marks.{Shown}
-use Rattle.expiry_lists.specs.inner.Nodes.{NodeTable, parent, place_of, bit_of, has_bit, at_bits, is_clean, spot_of, live_word, lives_at, shown_of, IsTree, Quieter}
+use Rattle.expiry_lists.specs.inner.Nodes.{Node, NodeTable, parent, place_of, bit_of, has_bit, at_bits, is_clean, spot_of, live_word, lives_at, shown_of, IsTree, Quieter}
 use Rattle.expiry_lists.specs.inner.Walks.{child, is_under, under_bits, IsNode, Walks}
-use Rattle.expiry_lists.specs.declared.nodes.Spot.{Spot}
+use Rattle.expiry_lists.specs.declared.table.Spot.{Spot}
 use Rattle.expiry_lists.proofs.Bits.{no_bit}
 use Rattle.expiry_lists.proofs.Dirtying.{NoneOf}
 use Rattle.expiry_lists.proofs.Walked.{walks_agree}

@@ -1,51 +1,56 @@
 -- Marks that are given to keys and taken from them.
-use Rattle.std.proofs.Common.{◌≡◌, ◌≤◌, Bool, true, false, cond, List, Some, None, refl, sym, ap, ◌∙◌, subst}
-use Rattle.std.specs.List.{IsDistinct}
-use Rattle.std.specs.Map.{set_value}
-use Rattle.std.proofs.lemmas.Map.{keys-set_value}
+use Rattle.std.proofs.Common.{◌≡◌, ◌≤◌, Bool, true, false, cond, Option, Some, None, option_map, is_some, refl, sym, ap, ◌∙◌, subst}
 use Rattle.farm_history.specs.declared.keys.Key.{Key}
-use Rattle.farm_history.specs.declared.keys.Mark.{Mark}
 use Rattle.farm_history.specs.Plans.{same_key}
 use Rattle.farm_history.proofs.Lists.{same_key-true}
 use Rattle.plain_world.specs.World.{IsMeta}
-use Rattle.expiry_lists.specs.declared.nodes.Node.{Node}
-use Rattle.expiry_lists.specs.declared.nodes.Spot.{Spot}
 use Rattle.expiry_lists.specs.Marks.{mark_of}
-use Rattle.expiry_lists.specs.inner.Nodes.{place_of, bit_of, node_of, node_mark, has_node, has_spot, owns_at, lives_at, shown_of, IsTree}
+use Rattle.expiry_lists.specs.inner.Nodes.{Node, NodeTable, place_of, bit_of, node_of, node_mark, has_spot, is_clean, is_clean_at, owns_at, lives_at, shown_of, Gives, IsTree, Owns}
 use Rattle.expiry_lists.proofs.Finding.{Distinct, mark_found}
-use Rattle.expiry_lists.proofs.Writing.{Writes, node_tree}
 
--- what is shown after a write
-pub marking_marks : (es new : List (Key × Node)) (key : Key) (w : Node) → Distinct es → Distinct new → Writes es key w new → (k : Key) → mark_of (shown_of new) k ≡ cond (same_key key k) w.mark (mark_of (shown_of es) k)
-marking_marks es new key w before after writes k = mark_found new after k ∙ (ap node_mark (writes k) ∙ go (same_key key k))
-  where
-    go : (b : Bool) → node_mark (cond b (Some w) (node_of es k)) ≡ cond b w.mark (mark_of (shown_of es) k)
-    go true = refl
-    go false = sym (mark_found es before k)
+module _ (a b : NodeTable) (key : Key) (n : Option Node) (gives : Gives key n a.entries b.entries) where
+  -- what is shown after a mark was given or taken
+  pub given_marks : Distinct a.entries → Distinct b.entries → (k : Key) → mark_of (shown_of b.entries) k ≡ cond (same_key key k) (node_mark n) (mark_of (shown_of a.entries) k)
+  given_marks before after k = mark_found b.entries after k ∙ (ap node_mark (gives k) ∙ go (same_key key k))
+    where
+      go : (x : Bool) → node_mark (cond x n (node_of a.entries k)) ≡ cond x (node_mark n) (mark_of (shown_of a.entries) k)
+      go true = refl
+      go false = sym (mark_found a.entries before k)
 
--- the same keys
-pub marking_apart : (es : List (Key × Node)) (key : Key) (w : Node) → Distinct es → Distinct (set_value (same_key key) es w)
-marking_apart es key w apart = subst (λ ks. IsDistinct same_key ks) (sym (keys-set_value (same_key key) es w)) apart
+  -- and that the tables stay a quadtree
+  pub given_tree : (clean : Bool) → Owns key clean a.spots b.spots → IsTree a.entries a.spots → ((k : Key) → is_clean_at b.entries k ≡ true → owns_at b.spots (place_of k) (bit_of k) ≡ true)
+      → (is_some n ≡ true → IsMeta key.meta) → (is_some n ≡ true → has_spot a.spots (place_of key) ≡ true) → (3 ≤ key.meta.z → is_clean (node_mark n) ≡ true → lives_at a.spots (place_of key) (bit_of key) ≡ true) → IsTree b.entries b.spots
+  given_tree clean owns tree own meta there live = record {
+    metas = λ k has. by k (λ o. is_some o ≡ true) has (λ same here. subst (λ (x : Key). IsMeta x.meta) same (meta here)) (tree.metas k);
+    places = λ p has. tree.places p (sym (owns.there p) ∙ has);
+    groups = λ p has. tree.groups p (sym (owns.there p) ∙ has);
+    spotted = λ k has. owns.there (place_of k) ∙ by k (λ o. is_some o ≡ true) has (λ same here. subst (λ (x : Key). has_spot a.spots (place_of x) ≡ true) same (there here)) (tree.spotted k);
+    rooted = λ p deep has. owns.there _ ∙ tree.rooted p deep (sym (owns.there p) ∙ has);
+    own = own;
+    clean_live = λ k deep clean'. owns.lives (place_of k) (bit_of k) ∙ by k (λ o. is_clean (node_mark o) ≡ true) clean'
+        (λ same here. subst (λ (x : Key). lives_at a.spots (place_of x) (bit_of x) ≡ true) same (live (subst (λ (x : Key). 3 ≤ x.meta.z) (sym same) deep) here)) (tree.clean_live k deep);
+    rises = λ p x deep has. owns.lives _ x ∙ tree.rises p x deep (sym (owns.lives p x) ∙ has);
+  }
+    where
+      by : (k : Key) (P : Option Node → Type 0) {Q : Type 0} → P (node_of b.entries k) → (key ≡ k → P n → Q) → (P (node_of a.entries k) → Q) → Q
+      by k P {Q} here mine other = go (same_key key k) refl (subst P (gives k) here)
+        where
+          go : (x : Bool) → same_key key k ≡ x → P (cond x n (node_of a.entries k)) → Q
+          go true same p = mine (same_key-true key k same) p
+          go false apart p = other p
 
--- a key without a node has no mark
-pub marking_absent : (es : List (Key × Node)) → Distinct es → (key : Key) → node_of es key ≡ None → (k : Key) → mark_of (shown_of es) k ≡ cond (same_key key k) None (mark_of (shown_of es) k)
-marking_absent es apart key gone k = go (same_key key k) refl
-  where
-    go : (b : Bool) → same_key key k ≡ b → mark_of (shown_of es) k ≡ cond b None (mark_of (shown_of es) k)
-    go false is = refl
-    go true is = mark_found es apart k ∙ (ap (λ x. node_mark (node_of es x)) (sym (same_key-true key k is)) ∙ ap node_mark gone)
+-- a mark that is taken leaves none
+abbrev pub gone_node : Option Node → Option Node
+gone_node o = option_map (λ n. record { mark = None }) o
 
--- a mark that is put, and one that is taken
-pub marking_tree : (es new : List (Key × Node)) (ss ss' : List (Key × Spot)) (key : Key) (m : Mark) → Writes es key (record { mark = Some m }) new → ss' ≡ ss → IsMeta key.meta → has_spot ss (place_of key) ≡ true → (m.clean ≡ true → owns_at ss (place_of key) (bit_of key) ≡ true)
-    → (3 ≤ key.meta.z → m.clean ≡ true → lives_at ss (place_of key) (bit_of key) ≡ true) → IsTree es ss → IsTree new ss'
-marking_tree es new ss ss' key m writes same meta there own live tree =
-    subst (λ xs. IsTree new xs) (sym same) (node_tree es new ss key (record { mark = Some m }) writes (record { meta = meta; spotted = there; own = own; clean_live = live }) tree)
+pub gone_mark : (o : Option Node) → node_mark (gone_node o) ≡ None
+gone_mark None = refl
+gone_mark (Some n) = refl
 
-pub dropping_tree : (es new : List (Key × Node)) (ss ss' : List (Key × Spot)) (key : Key) → has_node es key ≡ true → Writes es key (record { mark = None }) new → ss' ≡ ss → IsTree es ss → IsTree new ss'
-dropping_tree es new ss ss' key there writes same tree =
-    subst (λ xs. IsTree new xs) (sym same) (node_tree es new ss key (record { mark = None }) writes (record {
-      meta = tree.metas key there;
-      spotted = tree.spotted key there;
-      own = λ clean. let never : false ≡ true = clean in cc;
-      clean_live = λ deep clean. let never : false ≡ true = clean in cc;
-    }) tree)
+pub gone_clean : (o : Option Node) → is_clean (node_mark (gone_node o)) ≡ true → false ≡ true
+gone_clean None clean = clean
+gone_clean (Some n) clean = clean
+
+pub gone_there : (o : Option Node) → is_some (gone_node o) ≡ true → is_some o ≡ true
+gone_there None there = there
+gone_there (Some n) there = refl

@@ -1,13 +1,12 @@
 -- Spots on the way from a group's root to a place, one after another.
-use Rattle.std.proofs.Common.{◌≡◌, ℕ, ◌<◌, ◌^◌, ◌==◌, Bool, true, false, ◌&&◌, cond, [], ◌∷◌, ◌++◌, Some, None, is_some, refl, sym, ap, ◌∙◌, subst, inl, inr}
+use Rattle.std.proofs.Common.{◌≡◌, ℕ, ◌<◌, ◌^◌, ◌==◌, true, false, ◌&&◌, [], ◌∷◌, ◌++◌, Some, None, is_some, refl, sym, ap, ◌∙◌, subst, inl, inr}
 use Rattle.std.specs.Prelude.{bit_and, bit_or}
 use Rattle.std.specs.Map.{set_value}
 use Rattle.std.proofs.lemmas.Bool.{and_parts, eqb-true, or_cases, or_left, or_right}
 use Rattle.farm_history.specs.declared.keys.Key.{Key}
 use Rattle.farm_history.specs.Plans.{same_key}
-use Rattle.farm_history.proofs.Lists.{same_key-true}
 use Rattle.plain_world.specs.World.{IsMeta}
-use Rattle.expiry_lists.specs.declared.nodes.Spot.{Spot}
+use Rattle.expiry_lists.specs.declared.table.Spot.{Spot}
 use Rattle.expiry_lists.specs.inner.Nodes.{NodeTable, parent, place_of, bit_of, has_bit, is_clean_at, spot_of, has_spot, own_word, live_word, owns_at, lives_at, IsTree}
 use Rattle.expiry_lists.specs.inner.Waking.{Wakes}
 use Rattle.expiry_lists.proofs.Bits.{or_bit, whole_met, no_bit}
@@ -112,49 +111,3 @@ wakes_then {a} {b} {c} up place mask same first second = record {
   ];
   room = second.room ∙ first.room;
 }
-
--- the own bits of a place that has a spot
-module _ (a b : NodeTable) (place : Key) (mask : ℕ) (s : Spot) (tree : IsTree a.entries a.spots) (found : spot_of a.spots place ≡ Some s) (spots : b.spots ≡ set_value (same_key place) a.spots (record s { own = bit_or s.own mask })) where
-  owning : Spot
-  owning = record { own = bit_or s.own mask; live = s.live }
-
-  lives_own : (x : ℕ) → lives_at a.spots place x ≡ has_bit s.live x
-  lives_own x = ap (λ o. has_bit (live_word o) x) found
-
-  own_writes : Writes a.spots place owning b.spots
-  unfolding owning
-  own_writes = subst (λ ss. Writes a.spots place owning ss) (sym spots) (set-writes a.spots place owning (ap is_some found))
-
-  own_fits : FitsSpot a.entries a.spots place owning
-  unfolding owning
-  own_fits = record {
-    meta = tree.places place (ap is_some found);
-    group = tree.groups place (ap is_some found);
-    rooted = λ deep. tree.rooted place deep (ap is_some found);
-    own = λ k at clean. or_bit s.own mask (bit_of k) ∙ or_left (has_bit s.own (bit_of k)) (has_bit mask (bit_of k)) (sym (ap (λ o. has_bit (own_word o) (bit_of k)) found) ∙ subst (λ (x : Key). owns_at a.spots x (bit_of k) ≡ true) (sym at) (tree.own k clean));
-    clean_live = λ k at deep clean. sym (lives_own (bit_of k)) ∙ subst (λ (x : Key). lives_at a.spots x (bit_of k) ≡ true) (sym at) (tree.clean_live k deep clean);
-    live_above = λ x deep has. tree.rises place x deep (lives_own x ∙ has);
-    live_below = λ q x deep live at. sym (lives_own x) ∙ subst (λ (y : Key). lives_at a.spots y x ≡ true) (sym at) (tree.rises q x deep live);
-  }
-
-  pub own_tree : b.entries ≡ a.entries → IsTree b.entries b.spots
-  own_tree entries = subst (λ es. IsTree es b.spots) (sym entries) (spot_tree a.entries a.spots b.spots place owning own_writes own_fits tree)
-
-  pub own_there : (p : Key) → has_spot b.spots p ≡ has_spot a.spots p
-  own_there p = ap is_some (own_writes p) ∙ go (same_key place p) refl
-    where
-      go : (x : Bool) → same_key place p ≡ x → is_some (cond x (Some owning) (spot_of a.spots p)) ≡ has_spot a.spots p
-      go true same = sym (ap (has_spot a.spots) (sym (same_key-true place p same)) ∙ ap is_some found)
-      go false other = refl
-
-  pub own_lives : (p : Key) (x : ℕ) → lives_at b.spots p x ≡ lives_at a.spots p x
-  unfolding owning
-  own_lives p x = ap (λ o. has_bit (live_word o) x) (own_writes p) ∙ go (same_key place p) refl
-    where
-      go : (y : Bool) → same_key place p ≡ y → has_bit (live_word (cond y (Some owning) (spot_of a.spots p))) x ≡ lives_at a.spots p x
-      go true same = sym (lives_own x) ∙ ap (λ (q : Key). lives_at a.spots q x) (same_key-true place p same)
-      go false other = refl
-
-  pub own_owned : (x : ℕ) → has_bit mask x ≡ true → owns_at b.spots place x ≡ true
-  unfolding owning
-  own_owned x has = ap (λ o. has_bit (own_word o) x) (written_here a.spots b.spots place owning own_writes) ∙ (or_bit s.own mask x ∙ or_right (has_bit s.own x) (has_bit mask x) has)

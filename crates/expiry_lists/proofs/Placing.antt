@@ -34,3 +34,8 @@ pub put_past : {X : Type 0} (es : List (Key × X)) (i : ℕ) (w : X) → length 
 put_past [] i w past = refl
 put_past (e ∷ es) zero w past = absurd (omega (arith, past))
 put_past (e ∷ es) (suc i) w past = ap (λ xs. e ∷ xs) (put_past es i w (omega (arith, past)))
+
+pub key_at_place : {X : Type 0} (es : List (Key × X)) (i : ℕ) (k : Key) (v : X) → slice_get es i ≡ Some (k, v) → slice_get (keys_of es) i ≡ Some k
+key_at_place [] i k v at = cc
+key_at_place {X} (e ∷ es) zero k v at = let same : e ≡ (k, v) = cc in ap (λ (x : Key × X). Some x.0) same
+key_at_place (e ∷ es) (suc i) k v at = key_at_place es i k v at

@@ -1,5 +1,6 @@
 -- The clean entries, in the order of their keys.
-use Rattle.std.proofs.Common.{◌≡◌, ℕ, suc, ◌+◌, ◌<◌, Bool, true, false, ◌&&◌, ◌||◌, cond, ◌==◌, nat_lt, List, [], ◌∷◌, length, get_or, map, Option, Some, None, option_map, IsPermutation, All, if◌then◌else◌, Ordering, Less, Equal, Greater, is_lt, nat_cmp, refl, sym, ap, ◌∙◌, arith, add-one}
+use Rattle.std.proofs.Common.{◌≡◌, ℕ, zero, suc, ◌+◌, ◌<◌, Bool, true, false, ◌&&◌, ◌||◌, cond, ◌==◌, nat_lt, List, [], ◌∷◌, ◌++◌, length, take, get_or, map, Option, Some, None, option_map, IsPermutation, All, if◌then◌else◌, Ordering, Less, Equal, Greater, is_lt, nat_cmp, refl, sym, ap, ap₂, ◌∙◌, arith, add-one}
+use Rattle.std.specs.Prelude.{slice_get}
 use Rattle.std.specs.List.{AllByRecursion, IsDistinct, list_all, cons_option}
 use Rattle.std.specs.Map.{keys_of}
 use Rattle.std.specs.Ordering.{ordering_then}
@@ -16,9 +17,8 @@ use Rattle.farm_history.specs.Plans.{same_key}
 use Rattle.farm_history.specs.Replays.{key_before, are_rising, kept_of, kept_version}
 use Rattle.farm_history.specs.Lists.{Each}
 use Rattle.farm_history.proofs.Lists.{each-find, find-passes, same_key-true, same_key-self, same_key-sym}
-use Rattle.expiry_lists.specs.declared.nodes.Node.{Node}
 use Rattle.expiry_lists.specs.Marks.{mark_of, clean_version}
-use Rattle.expiry_lists.specs.inner.Nodes.{node_of, node_mark, shown_of}
+use Rattle.expiry_lists.specs.inner.Nodes.{Node, node_of, node_mark, shown_of}
 use Rattle.expiry_lists.specs.inner.Keeping.{kept_at, kept_list}
 use Rattle.expiry_lists.proofs.Finding.{Distinct, absent, mark_found}
 
@@ -208,3 +208,24 @@ before_key a b =
     let y = nat_cmp a.meta.y b.meta.y in
     ap is_lt (then_then (ordering_then m z) x y ∙ then_then m z (ordering_then x y))
     ∙ before_then a.map b.map _ _ (before_then a.meta.z b.meta.z _ _ (before_then a.meta.x b.meta.x _ _ (before_last a.meta.y b.meta.y)))
+
+-- The clean ones of one entry more.
+abbrev pub kept_some : Option Kept → List Kept
+kept_some None = []
+kept_some (Some x) = x ∷ []
+
+pub kept_more : (es : List (Key × Node)) (i : ℕ) (k : Key) (m : Option Mark) → slice_get es i ≡ Some (k, record { mark = m }) → kept_list (take (suc i) es) ≡ kept_list (take i es) ++ kept_some (kept_at k m)
+kept_more [] i k m at = cc
+kept_more (e ∷ es) zero k m at = let same : e ≡ (k, record { mark = m }) = cc in rw same (go (kept_at k m))
+  where
+    go : (o : Option Kept) → cons_option o [] ≡ [] ++ kept_some o
+    go None = refl
+    go (Some x) = refl
+kept_more (e ∷ es) (suc i) k m at = go (kept_at e.0 e.1.mark) (kept_more es i k m at)
+  where
+    go : (o : Option Kept) → kept_list (take (suc i) es) ≡ kept_list (take i es) ++ kept_some (kept_at k m) → cons_option o (kept_list (take (suc i) es)) ≡ cons_option o (kept_list (take i es)) ++ kept_some (kept_at k m)
+    go None ih = ih
+    go (Some x) ih = ap (λ xs. x ∷ xs) ih
+
+pub kept_next : (es : List (Key × Node)) (i : ℕ) (k : Key) (m : Option Mark) (before after : List Kept) (o : Option Kept) → slice_get es i ≡ Some (k, record { mark = m }) → before ≡ kept_list (take i es) → o ≡ kept_at k m → after ≡ before ++ kept_some o → after ≡ kept_list (take (i + 1) es)
+kept_next es i k m before after o at was is more = more ∙ (ap₂ (λ xs p. xs ++ kept_some p) was is ∙ (sym (kept_more es i k m at) ∙ ap (λ n. kept_list (take n es)) (sym (add-one i))))

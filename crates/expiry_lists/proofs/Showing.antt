@@ -5,10 +5,9 @@ use Rattle.std.proofs.lemmas.Bool.{false_from_ne_true}
 use Rattle.farm_history.specs.declared.keys.Key.{Key}
 use Rattle.farm_history.proofs.Lists.{each-map}
 use Rattle.plain_world.specs.World.{IsMeta}
-use Rattle.expiry_lists.specs.declared.nodes.Node.{Node}
 use Rattle.expiry_lists.specs.Marks.{Shown, mark_of}
 use Rattle.expiry_lists.specs.inner.Keeping.{IsKept}
-use Rattle.expiry_lists.specs.inner.Nodes.{NodeTable, has_node, has_spot, node_of, node_mark, place_of, shown_of, IsTree}
+use Rattle.expiry_lists.specs.inner.Nodes.{Node, NodeTable, has_node, has_spot, node_of, node_mark, place_of, shown_of, IsTree}
 use Rattle.expiry_lists.specs.inner.Waking.{path_len, Wakes}
 use Rattle.expiry_lists.specs.inner.Tiles.{is_of_maps}
 use Rattle.expiry_lists.proofs.Finding.{Distinct, Marked, all_marked, marked_there, mark_found}

@@ -1,101 +1,73 @@
--- The marks at a place made dirty by a word of bits, and bits taken from its spot.
-use Rattle.std.proofs.Common.{◌≡◌, ◌≢◌, ℕ, ◌+◌, ◌*◌, ◌^◌, ◌<◌, ◌≤◌, ◌==◌, nat_lt, Bool, true, false, not, ◌&&◌, ◌||◌, List, Some, None, is_some, refl, sym, ap, ap₂, ◌∙◌, subst, arith}
+-- Bits that are taken from the spot of a place: the marks there made dirty, and what is no longer live.
+use Rattle.std.proofs.Common.{◌≡◌, ◌≢◌, ℕ, ◌^◌, ◌<◌, Bool, true, false, not, ◌&&◌, cond, List, Option, Some, None, is_some, refl, sym, ap, ap₂, ◌∙◌, subst, arith}
 use Rattle.std.specs.Int.{bit_not, w64}
-use Rattle.std.specs.Prelude.{bit_and}
-use Rattle.std.specs.Map.{set_value}
+use Rattle.std.specs.List.{IsDistinct, list_any}
+use Rattle.std.specs.Prelude.{bit_and, count_ones}
+use Rattle.std.specs.Map.{keys_of, set_value}
 use Rattle.std.proofs.lemmas.Bool.{and_parts, and_from, false_from_ne_true}
-use Rattle.std.proofs.lemmas.Bool.Decides.{nat_tests}
-use Rattle.std.proofs.Math.Bool.{or-false, and-false}
+use Rattle.std.proofs.Math.Bool.{and-false}
 use Rattle.farm_history.specs.declared.keys.Key.{Key}
 use Rattle.farm_history.specs.Plans.{same_key}
 use Rattle.farm_history.proofs.Lists.{each-all, each-map, same_key-true, same_key-self}
-use Rattle.expiry_lists.specs.declared.nodes.Node.{Node}
-use Rattle.expiry_lists.specs.declared.nodes.Spot.{Spot}
-use Rattle.expiry_lists.specs.inner.Nodes.{NodeTable, parent, place_of, bit_of, has_bit, at_bits, has_node, has_spot, is_clean, is_clean_at, spot_of, own_word, live_word, owns_at, lives_at, shown_of, IsTree, Quieter}
+use Rattle.expiry_lists.specs.declared.table.Spot.{Spot}
+use Rattle.expiry_lists.specs.inner.Nodes.{Node, NodeTable, parent, place_of, bit_of, key_at, has_bit, at_bits, has_node, has_spot, is_clean, is_clean_at, spot_of, own_word, live_word, owns_at, lives_at, seen_nodes, shown_of, AreOwned, IsTree, Quieter}
 use Rattle.expiry_lists.specs.inner.Walks.{Dirties, Walks}
-use Rattle.expiry_lists.proofs.Bits.{and_bit, less_bit, few_bits, no_bit}
-use Rattle.expiry_lists.proofs.Dirtying.{AgreeOn}
-use Rattle.expiry_lists.proofs.Finding.{Distinct, Marked, all_marked}
-use Rattle.expiry_lists.proofs.Walked.{walks_then, walks_agree, walks_none, walks_clean}
+use Rattle.expiry_lists.proofs.Bits.{and_bit, less_bit, few_bits, no_bit, power_bit}
+use Rattle.expiry_lists.proofs.Counting.{ones_counted}
+use Rattle.expiry_lists.proofs.Dirtying.{AgreeOn, clean_marks-agree}
+use Rattle.expiry_lists.proofs.Finding.{Distinct, Marked, all_marked, there_listed}
+use Rattle.expiry_lists.proofs.Seen.{same_spot, seen_apart, seen_owns, seen_dirtied, owned_less}
+use Rattle.expiry_lists.proofs.Walked.{walks_agree, walks_none, walks_clean, dirties_clean}
 use Rattle.expiry_lists.proofs.Writing.{Takes, Writes, same_there, set-writes, spot_tree, takes_fits, takes_quieter, written_here}
 
--- one bit: the key of that place with that map
-pub one_key : (place : Key) (bit : ℕ) (k : Key) → bit < 64 → same_key (record { map = place.map * 64 + bit; meta = place.meta }) k ≡ (same_key place (place_of k) && (bit_of k == bit))
-one_key place bit k small = grind (arith, nat_tests)
+-- The own bits of the maps of a mask: what is clean has its bit, so those are all of the mask that count.
+module _ (es : List (Key × Node)) (ss : List (Key × Spot)) (place : Key) (s : Spot) (mask : ℕ) (apart : Distinct es) (own : (k : Key) → is_clean_at es k ≡ true → owns_at ss (place_of k) (bit_of k) ≡ true) (found : spot_of ss place ≡ Some s) where
+  own_bit : (k : Key) → is_clean_at es k ≡ true → same_key place (place_of k) ≡ true → has_bit s.own (bit_of k) ≡ true
+  own_bit k clean here = sym (ap (λ o. has_bit (own_word o) (bit_of k)) found) ∙ subst (λ (x : Key). owns_at ss x (bit_of k) ≡ true) (sym (same_key-true place (place_of k) here)) (own k clean)
 
-pub bit_walks : {a b : NodeTable} {n : ℕ} (place : Key) (word bit : ℕ) → bit < 64 → has_bit word bit ≡ true → Walks (same_key (record { map = place.map * 64 + bit; meta = place.meta })) a b n
-    → Walks (λ k. same_key place (place_of k) && ((bit_of k == bit) && has_bit word bit)) a b n
-bit_walks {a} place word bit small has w =
-    walks_agree (λ k. same_key place (place_of k) && ((bit_of k == bit) && has_bit word bit)) (each-all _ (shown_of a.entries) (λ s clean. one_key place bit s.key small ∙ plain (same_key place (place_of s.key)) (bit_of s.key == bit) (has_bit word bit) has)) w
-  where
-    plain : (x y z : Bool) → z ≡ true → (x && y) ≡ (x && (y && z))
-    plain x y true is = grind arith
-    plain x y false is = cc
-
-pub bit_none : (a : NodeTable) (place : Key) (word bit : ℕ) → has_bit word bit ≡ false → IsTree a.entries a.spots → Walks (λ k. same_key place (place_of k) && ((bit_of k == bit) && has_bit word bit)) a a 0
-bit_none a place word bit gone tree = walks_none _ a (each-all _ (shown_of a.entries) (λ s clean. plain (same_key place (place_of s.key)) (bit_of s.key == bit) (has_bit word bit) gone)) tree
-  where
-    plain : (x y z : Bool) → z ≡ false → (x && (y && z)) ≡ false
-    plain x y false is = grind arith
-    plain x y true is = cc
-
--- the bits so far
-abbrev pub bits_below : Key → ℕ → ℕ → Key → Bool
-bits_below place word i k = same_key place (place_of k) && (nat_lt (bit_of k) i && has_bit word (bit_of k))
-
-pub no_bits : (a : NodeTable) (place : Key) (word : ℕ) → IsTree a.entries a.spots → Walks (bits_below place word 0) a a 0
-no_bits a place word tree = walks_none (bits_below place word 0) a (each-all _ (shown_of a.entries) (λ s clean. plain (same_key place (place_of s.key)) (bit_of s.key) (has_bit word (bit_of s.key)))) tree
-  where
-    plain : (x : Bool) (n : ℕ) (z : Bool) → (x && (nat_lt n 0 && z)) ≡ false
-    plain x n z = grind (arith, nat_tests)
-
-pub bits_more : {a b c : NodeTable} {m n : ℕ} (place : Key) (word i : ℕ) → Walks (bits_below place word i) a b m → Walks (λ k. same_key place (place_of k) && ((bit_of k == i) && has_bit word i)) b c n → Walks (bits_below place word (i + 1)) a c (m + n)
-bits_more {a} place word i first second = walks_agree (bits_below place word (i + 1)) (each-all _ (shown_of a.entries) (λ s clean. plain (same_key place (place_of s.key)) (bit_of s.key))) (walks_then first second)
-  where
-    plain : (x : Bool) (n : ℕ) → ((x && (nat_lt n i && has_bit word n)) || (x && ((n == i) && has_bit word i))) ≡ (x && (nat_lt n (i + 1) && has_bit word n))
-    plain false n = refl
-    plain true n = go (n == i) refl
-      where
-        go : (e : Bool) → (n == i) ≡ e → ((nat_lt n i && has_bit word n) || (e && has_bit word i)) ≡ (nat_lt n (i + 1) && has_bit word n)
-        go false other = let same : nat_lt n (i + 1) ≡ nat_lt n i = grind (arith, nat_tests) in rw same (or-false (nat_lt n i && has_bit word n))
-        go true own =
-            let is : n ≡ i = grind (arith, nat_tests) in
-            let past : nat_lt n i ≡ false = grind (arith, nat_tests) in
-            let within : nat_lt n (i + 1) ≡ true = grind (arith, nat_tests) in
-            rw (past, within) (ap (has_bit word) (sym is))
-
-pub bits_all : {a b : NodeTable} {n : ℕ} (place : Key) (word i : ℕ) → 64 ≤ i → Walks (bits_below place word i) a b n → Walks (at_bits place word) a b n
-bits_all {a} place word i all w = walks_agree (at_bits place word) (each-all _ (shown_of a.entries) (λ s clean. plain (same_key place (place_of s.key)) s.key)) w
-  where
-    plain : (x : Bool) (k : Key) → (x && (nat_lt (bit_of k) i && has_bit word (bit_of k))) ≡ (x && has_bit word (bit_of k))
-    plain x k = let within : nat_lt (bit_of k) i ≡ true = grind (arith, nat_tests) in rw within refl
-
--- The own bits of the maps of a mask, made dirty: what is clean has its bit, so those are all of the mask that count.
-module _ (a : NodeTable) (place : Key) (s : Spot) (mask : ℕ) (apart : Distinct a.entries) (tree : IsTree a.entries a.spots) (found : spot_of a.spots place ≡ Some s) where
-  owned : (k : Key) → is_clean_at a.entries k ≡ true → same_key place (place_of k) ≡ true → has_bit s.own (bit_of k) ≡ true
-  owned k clean here =
-      sym (ap (λ o. has_bit (own_word o) (bit_of k)) found)
-      ∙ subst (λ (x : Key). owns_at a.spots x (bit_of k) ≡ true) (sym (same_key-true place (place_of k) here)) (tree.own k clean)
-
-  mask_agrees : (k : Key) → is_clean_at a.entries k ≡ true → at_bits place (bit_and s.own mask) k ≡ at_bits place mask k
+  mask_agrees : (k : Key) → is_clean_at es k ≡ true → at_bits place (bit_and s.own mask) k ≡ at_bits place mask k
   mask_agrees k clean = go (same_key place (place_of k)) refl
     where
       go : (x : Bool) → same_key place (place_of k) ≡ x → (x && has_bit (bit_and s.own mask) (bit_of k)) ≡ (x && has_bit mask (bit_of k))
       go false other = refl
-      go true here = and_bit s.own mask (bit_of k) ∙ ap (λ x. x && has_bit mask (bit_of k)) (owned k clean here)
+      go true here = and_bit s.own mask (bit_of k) ∙ ap (λ x. x && has_bit mask (bit_of k)) (own_bit k clean here)
 
-  mask_agree : AgreeOn (at_bits place (bit_and s.own mask)) (at_bits place mask) (shown_of a.entries)
-  mask_agree = each-map (Marked a.entries) _ (shown_of a.entries) (λ t is clean. mask_agrees t.key (ap is_clean is ∙ clean)) (all_marked a.entries apart)
+  mask_agree : AgreeOn (at_bits place (bit_and s.own mask)) (at_bits place mask) (shown_of es)
+  mask_agree = each-map (Marked es) _ (shown_of es) (λ t is clean. mask_agrees t.key (ap is_clean is ∙ clean)) (all_marked es apart)
 
-  pub mask_walks : {b : NodeTable} {n : ℕ} → Walks (at_bits place (bit_and s.own mask)) a b n → Walks (at_bits place mask) a b n
-  mask_walks w = walks_agree (at_bits place mask) mask_agree w
+-- The bits of a mask taken from the own ones of a spot.
+abbrev pub taken : Spot → ℕ → Spot
+taken s mask = record { own = bit_and s.own (bit_not w64 mask); live = s.live }
 
-  -- where no map of the mask has an own bit
-  pub mask_none : bit_and s.own mask ≡ 0 → Walks (at_bits place mask) a a 0
-  mask_none none = walks_agree (at_bits place mask) mask_agree (walks_none (at_bits place (bit_and s.own mask)) a (each-all _ (shown_of a.entries) (λ t clean. gone t.key)) tree)
+module _ (vs : List (Key × Option ℕ)) (ss new : List (Key × Spot)) (place : Key) (s : Spot) (mask : ℕ) (small : mask < 2 ^ 64) (few : bit_and s.own mask < 2 ^ 64) (apart : IsDistinct same_key (keys_of vs)) (found : spot_of ss place ≡ Some s)
+    (owned : AreOwned (seen_nodes ss vs) ss) (spots : new ≡ set_value (same_key place) ss (taken s mask)) where
+  now : (p : Key) → spot_of new p ≡ cond (same_key place p) (Some (taken s mask)) (spot_of ss p)
+  now p = ap (λ xs. spot_of xs p) spots ∙ set-writes ss place (taken s mask) (ap is_some found) p
+
+  lesser : (p : Key) (b : ℕ) → b < 64 → owns_at new p b ≡ (not (same_key place p && has_bit mask b) && owns_at ss p b)
+  lesser p b low = ap (λ o. has_bit (own_word o) b) (now p) ∙ go (same_key place p) refl
     where
-      gone : (k : Key) → at_bits place (bit_and s.own mask) k ≡ false
-      gone k = ap (λ n. same_key place (place_of k) && has_bit n (bit_of k)) none ∙ (ap (λ x. same_key place (place_of k) && x) (no_bit (bit_of k)) ∙ and-false (same_key place (place_of k)))
+      swap : (x y : Bool) → (x && not y) ≡ (not y && x)
+      swap x y = grind arith
+
+      go : (x : Bool) → same_key place p ≡ x → has_bit (own_word (cond x (Some (taken s mask)) (spot_of ss p))) b ≡ (not (x && has_bit mask b) && owns_at ss p b)
+      go false other = refl
+      go true same =
+          let there : owns_at ss p b ≡ has_bit s.own b = ap (λ (q : Key). owns_at ss q b) (sym (same_key-true place p same)) ∙ ap (λ o. has_bit (own_word o) b) found in
+          less_bit s.own mask b small low ∙ (swap (has_bit s.own b) (has_bit mask b) ∙ ap (λ x. not (has_bit mask b) && x) (sym there))
+
+  pub taken_dirties : Dirties (at_bits place mask) (shown_of (seen_nodes ss vs)) (shown_of (seen_nodes new vs)) (count_ones (bit_and s.own mask))
+  taken_dirties = record {
+    marks = seen_dirtied ss new vs (at_bits place mask) (λ k. lesser (place_of k) (bit_of k) (omega arith));
+    counted = ones_counted (seen_nodes ss vs) (seen_apart ss vs apart) place (bit_and s.own mask) has few
+        ∙ clean_marks-agree (at_bits place (bit_and s.own mask)) (at_bits place mask) (shown_of (seen_nodes ss vs)) (mask_agree (seen_nodes ss vs) ss place s mask (seen_apart ss vs apart) (seen_owns ss vs) found);
+  }
+    where
+      has : (b : ℕ) → b < 64 → has_bit (bit_and s.own mask) b ≡ true → is_clean_at (seen_nodes ss vs) (key_at place b) ≡ true
+      has b low both = owned place b low (ap (λ o. has_bit (own_word o) b) found ∙ (and_parts (has_bit s.own b) (has_bit mask b) (sym (and_bit s.own mask b) ∙ both)).0)
+
+  pub taken_owned : AreOwned (seen_nodes new vs) new
+  taken_owned = owned_less vs ss new (λ p b low has. (and_parts (not (same_key place p && has_bit mask b)) (owns_at ss p b) (sym (lesser p b low) ∙ has)).1) owned
 
 -- a place without a spot has nothing clean
 pub spotless : (a : NodeTable) (place : Key) (mask : ℕ) → Distinct a.entries → IsTree a.entries a.spots → spot_of a.spots place ≡ None → Walks (at_bits place mask) a a 0
@@ -111,48 +83,54 @@ spotless a place mask apart tree gone = walks_none (at_bits place mask) a (each-
             let never : true ≡ false = sym own ∙ (ap (λ o. has_bit (own_word o) (bit_of k)) gone ∙ no_bit (bit_of k)) in
             cc
 
--- The own bits that were made dirty are taken from the spot.
-module _ (a b c : NodeTable) (place : Key) (s : Spot) (mask n : ℕ) (small : mask < 2 ^ 64) (before : Distinct a.entries) (after : Distinct b.entries) (tree : IsTree a.entries a.spots) (found : spot_of a.spots place ≡ Some s)
-    (w : Walks (at_bits place (bit_and s.own mask)) a b n) (kept : b.spots ≡ a.spots) (entries : c.entries ≡ b.entries)
-    (spots : c.spots ≡ set_value (same_key place) b.spots (record s { own = bit_and s.own (bit_not w64 mask) })) where
-  taken : Spot
-  taken = record { own = bit_and s.own (bit_not w64 mask); live = s.live }
+-- What that makes of the tables.
+module _ (a c : NodeTable) (place : Key) (s : Spot) (mask n : ℕ) (small : mask < 2 ^ 64) (before : Distinct a.entries) (after : Distinct c.entries) (tree : IsTree a.entries a.spots) (found : spot_of a.spots place ≡ Some s)
+    (dirties : Dirties (at_bits place mask) (shown_of a.entries) (shown_of c.entries) n) (keys : keys_of c.entries ≡ keys_of a.entries) (spots : c.spots ≡ set_value (same_key place) a.spots (taken s mask)) where
+  there : (k : Key) → has_node c.entries k ≡ has_node a.entries k
+  there k = there_listed k c.entries ∙ (ap (list_any (same_key k)) keys ∙ sym (there_listed k a.entries))
 
-  still_found : spot_of b.spots place ≡ Some s
-  still_found = ap (λ ss. spot_of ss place) kept ∙ found
+  was_clean : (k : Key) → is_clean_at c.entries k ≡ true → is_clean_at a.entries k ≡ true
+  was_clean k clean = (dirties_clean a.entries c.entries before after dirties k clean).1
 
-  takes : Takes b.entries b.spots place s taken
-  unfolding taken
+  between : IsTree c.entries a.spots
+  between = record {
+    metas = λ k has. tree.metas k (sym (there k) ∙ has);
+    places = tree.places;
+    groups = tree.groups;
+    spotted = λ k has. tree.spotted k (sym (there k) ∙ has);
+    rooted = tree.rooted;
+    own = λ k clean. tree.own k (was_clean k clean);
+    clean_live = λ k deep clean. tree.clean_live k deep (was_clean k clean);
+    rises = tree.rises;
+  }
+
+  takes : Takes c.entries a.spots place s (taken s mask)
   takes = record {
-    found = still_found;
-    own = λ k at clean has. less_bit s.own mask (bit_of k) small (omega arith) ∙ ap₂ (λ x y. x && not y) has (unmasked k at clean has);
+    found = found;
+    own = λ k at clean has. less_bit s.own mask (bit_of k) small (omega arith) ∙ ap₂ (λ x y. x && not y) has (unmasked k at clean);
     clean_live = λ k at clean has. has;
     fewer = λ x has. has;
     below = λ q x deep live up has. has;
   }
     where
-      unmasked : (k : Key) → place ≡ place_of k → is_clean_at b.entries k ≡ true → has_bit s.own (bit_of k) ≡ true → has_bit mask (bit_of k) ≡ false
-      unmasked k at clean has =
-          let none : at_bits place (bit_and s.own mask) k ≡ false = (walks_clean before after w k clean).0 in
+      unmasked : (k : Key) → place ≡ place_of k → is_clean_at c.entries k ≡ true → has_bit mask (bit_of k) ≡ false
+      unmasked k at clean =
           let here : same_key place (place_of k) ≡ true = subst (λ (x : Key). same_key place x ≡ true) at (same_key-self place) in
-          sym (and_bit s.own mask (bit_of k) ∙ ap (λ x. x && has_bit mask (bit_of k)) has) ∙ (sym (ap (λ x. x && has_bit (bit_and s.own mask) (bit_of k)) here) ∙ none)
+          sym (ap (λ x. x && has_bit mask (bit_of k)) here) ∙ (dirties_clean a.entries c.entries before after dirties k clean).0
 
-  writes : Writes b.spots place taken c.spots
-  unfolding taken
-  writes = subst (λ ss. Writes b.spots place taken ss) (sym spots) (set-writes b.spots place taken (ap is_some still_found))
+  writes : Writes a.spots place (taken s mask) c.spots
+  writes = subst (λ ss. Writes a.spots place (taken s mask) ss) (sym spots) (set-writes a.spots place (taken s mask) (ap is_some found))
 
-  pub taken_walks : c.room ≡ b.room → c.free ≡ b.free → Walks (at_bits place mask) a c n
-  taken_walks room free =
-      let whole = mask_walks a place s mask before tree found w in
-      record {
-        dirties = subst (λ es. Dirties (at_bits place mask) (shown_of a.entries) (shown_of es) n) (sym entries) whole.dirties;
-        tree = subst (λ es. IsTree es c.spots) (sym entries) (spot_tree b.entries b.spots c.spots place taken writes (takes_fits b.entries b.spots place s taken takes w.tree) w.tree);
-        there = λ k. ap (λ es. has_node es k) entries ∙ w.there k;
-        spotted = λ p. same_there b.spots c.spots place taken (ap is_some still_found) writes p ∙ w.spotted p;
-        quieter = λ p x live. w.quieter p x (takes_quieter b.entries b.spots c.spots place s taken takes writes p x live);
-        room = room ∙ w.room;
-        free = free ∙ w.free;
-      }
+  pub taken_walks : c.room ≡ a.room → c.free ≡ a.free → Walks (at_bits place mask) a c n
+  taken_walks room free = record {
+    dirties = dirties;
+    tree = spot_tree c.entries a.spots c.spots place (taken s mask) writes (takes_fits c.entries a.spots place s (taken s mask) takes between) between;
+    there = there;
+    spotted = same_there a.spots c.spots place (taken s mask) (ap is_some found) writes;
+    quieter = takes_quieter c.entries a.spots c.spots place s (taken s mask) takes writes;
+    room = room;
+    free = free;
+  }
 
 -- Live bits that are taken from a spot, where nothing of the mask is clean there, nor live right below.
 module _ (es : List (Key × Node)) (ss new : List (Key × Spot)) (place : Key) (s : Spot) (mask : ℕ) (small : mask < 2 ^ 64) (few : s.live < 2 ^ 64) (tree : IsTree es ss) (found : spot_of ss place ≡ Some s)
@@ -227,3 +205,9 @@ masked_dirty {a} {b} place mask before after w k masked = false_from_ne_true (is
 -- the expiry of a place that is told by an equation
 pub place_told : {a b : NodeTable} {n : ℕ} (r place : Key) (mask : ℕ) → r ≡ place → Walks (at_bits r mask) a b n → Walks (at_bits place mask) a b n
 place_told {a} {b} {n} r place mask is w = subst (λ (x : Key). Walks (at_bits x mask) a b n) is w
+
+-- the expiry of a place for one map is that of its key
+pub one_walks : {a b : NodeTable} {n : ℕ} (key place : Key) (bit : ℕ) → place ≡ place_of key → bit ≡ 2 ^ bit_of key → Walks (at_bits place bit) a b n → Walks (same_key key) a b n
+one_walks {a} key place bit at is w =
+    walks_agree (same_key key) (each-all _ (shown_of a.entries) (λ s clean.
+    ap₂ (λ (p : Key) m. same_key p (place_of s.key) && has_bit m (bit_of s.key)) at is ∙ (ap (λ x. same_key (place_of key) (place_of s.key) && x) (power_bit (bit_of key) (bit_of s.key)) ∙ same_spot key s.key))) w

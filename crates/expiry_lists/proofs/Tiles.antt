@@ -1,10 +1,8 @@
 -- Which keys an expiry of a tile, of a map or of a rectangle meets.
-use Rattle.std.proofs.Common.{◌≡◌, ◌≢◌, ℕ, zero, suc, [], ◌∷◌, ◌++◌, take, get_or, length, ◌+◌, ◌-◌, ◌*◌, ◌/◌, ◌%◌, ◌^◌, ◌<◌, ◌≤◌, Bool, true, false, ◌&&◌, ◌||◌, ◌==◌, nat_le, nat_lt, if◌then◌else◌, List, refl, sym, ap, ◌∙◌, subst, inl, inr, ◌⊎◌, arith}
-use Rattle.std.proofs.lemmas.Bool.{cases_eq, cases_lt, eqb-true, eq-eqb, false_from_ne_true, or_left, or_right}
+use Rattle.std.proofs.Common.{◌≡◌, ℕ, zero, suc, [], ◌∷◌, ◌++◌, take, get_or, length, ◌+◌, ◌-◌, ◌*◌, ◌/◌, ◌%◌, ◌^◌, ◌<◌, ◌≤◌, Bool, true, false, ◌&&◌, ◌||◌, ◌==◌, nat_le, nat_lt, if◌then◌else◌, List, refl, sym, ap, ◌∙◌, subst, inl, inr, ◌⊎◌, arith}
+use Rattle.std.proofs.lemmas.Bool.{cases_lt, eqb-true, eq-eqb, false_from_ne_true, or_left, or_right}
 use Rattle.std.proofs.lemmas.List.{take_more}
 use Rattle.std.proofs.lemmas.Bool.Decides.{nat_tests}
-use Rattle.std.specs.Int.{bit_at}
-use Rattle.std.proofs.lemmas.Nat.Bits.{bit_at-pow_same, bit_at-pow_other}
 use Rattle.std.proofs.lemmas.Nat.{pow_pos, pow_below, pow-add, shr-shr, div_below, shr_below}
 use Rattle.std.proofs.Math.Bool.{and-or_distrib_right}
 use Rattle.plain_world.specs.declared.world.Square.{Square}
@@ -14,13 +12,12 @@ use Rattle.plain_world.proofs.Squares.{ancestor, squares_turned}
 use Rattle.farm_history.specs.declared.keys.Key.{Key}
 use Rattle.farm_history.specs.Plans.{same_key, overlaps}
 use Rattle.farm_history.proofs.Lists.{each-map, each-all, any-append, same_key-self}
-use Rattle.expiry_lists.specs.declared.nodes.Node.{Node}
 use Rattle.expiry_lists.specs.Marks.{is_of_map, is_of_bits}
-use Rattle.expiry_lists.specs.inner.Nodes.{NodeTable, place_of, bit_of, has_bit, at_bits, node_of, shown_of, IsTree}
+use Rattle.expiry_lists.specs.inner.Nodes.{Node, NodeTable, place_of, bit_of, has_bit, at_bits, node_of, shown_of, IsTree}
 use Rattle.expiry_lists.specs.inner.Tiles.{world_key, is_flat, key_over, is_of_maps}
 use Rattle.expiry_lists.specs.inner.Walks.{is_under, is_above, under_bits, above_bits, IsNode, Walks}
-use Rattle.expiry_lists.specs.declared.nodes.Spot.{Spot}
-use Rattle.expiry_lists.proofs.Bits.{all_bits}
+use Rattle.expiry_lists.specs.declared.table.Spot.{Spot}
+use Rattle.expiry_lists.proofs.Bits.{all_bits, power_bit}
 use Rattle.expiry_lists.proofs.Dirtying.{AgreeOn, NoneOf}
 use Rattle.expiry_lists.proofs.Finding.{Distinct, Marked, all_marked, marked_there}
 use Rattle.expiry_lists.proofs.Live.{OnGrid, node_on_grid, under_deep}
@@ -249,14 +246,10 @@ tile_agrees map t top k is node tile meta = go (map == k.map) refl
 
 -- The same by place and with masks: of one map,
 pub one_bit : (i b : ℕ) → i < 64 → has_bit (1 * 2 ^ i % 2 ^ 64) b ≡ (b == i)
-one_bit i b few = go (cases_eq b i)
+one_bit i b few = ap (λ n. has_bit n b) small ∙ power_bit i b
   where
     small : 1 * 2 ^ i % 2 ^ 64 ≡ 2 ^ i
     small = let p : 2 ^ i < 2 ^ 64 = pow_below i 64 few in omega (arith, p)
-
-    go : (b ≡ i) ⊎ (b ≢ i) → has_bit (1 * 2 ^ i % 2 ^ 64) b ≡ (b == i)
-    go (inl same) = ap (λ n. has_bit n b) small ∙ (ap (λ j. has_bit (2 ^ i) j) same ∙ (eq-eqb (bit_at (2 ^ i) i) 1 (bit_at-pow_same i) ∙ sym (eq-eqb b i same)))
-    go (inr other) = ap (λ n. has_bit n b) small ∙ (ap (λ n. n == 1) (bit_at-pow_other i b other) ∙ sym (false_from_ne_true (b == i) (λ h. absurd (other (eqb-true b i h)))))
 
 pub mask_of_map : (map : ℕ) (k : Key) → has_bit (1 * 2 ^ (map % 64) % 2 ^ 64) (bit_of k) ≡ (bit_of k == map % 64)
 mask_of_map map k = one_bit (map % 64) (bit_of k) (omega arith)

@@ -6,9 +6,8 @@ use Rattle.farm_history.specs.declared.keys.Key.{Key}
 use Rattle.farm_history.specs.Plans.{same_key}
 use Rattle.farm_history.proofs.Lists.{same_key-true, same_key-self, same_key-sym}
 use Rattle.plain_world.specs.World.{IsMeta}
-use Rattle.expiry_lists.specs.declared.nodes.Node.{Node}
-use Rattle.expiry_lists.specs.declared.nodes.Spot.{Spot}
-use Rattle.expiry_lists.specs.inner.Nodes.{parent, place_of, bit_of, has_bit, node_mark, is_clean, is_clean_at, spot_of, has_spot, own_word, live_word, owns_at, lives_at, IsTree}
+use Rattle.expiry_lists.specs.declared.table.Spot.{Spot}
+use Rattle.expiry_lists.specs.inner.Nodes.{Node, parent, place_of, bit_of, has_bit, node_mark, is_clean, is_clean_at, spot_of, has_spot, own_word, live_word, owns_at, lives_at, IsTree}
 
 -- keys of which a third is one are one
 pub same_key-through : (a b c : Key) → same_key a b ≡ true → same_key c b ≡ same_key c a

@@ -3,8 +3,8 @@
 use Rattle.std.specs.Prelude.{ℕ, ◌^◌, List, [], ◌∷◌, Option, Some, None, Result, Ok}
 use Rattle.std.specs.Option.{ok_or}
 use Rattle.std.specs.Str.Lines.{lines}
-use Rattle.line_reading.specs.Cuts.{cut_at}
-use Rattle.line_reading.specs.Numbers.{decimal_below}
+use Rattle.farm_base.specs.Cuts.{cut_at}
+use Rattle.farm_base.specs.Numbers.{decimal_below}
 use Rattle.reading.specs.Lines.{line_text, items_after}
 use Rattle.reading.specs.Steps.{◌>>=◌}
 use Rattle.plain_world.specs.declared.world.Tile.{Tile}

@@ -8,7 +8,7 @@ ghost use Rattle.expiry_lists.specs.Boxes.{Holds, is_near, comes_near};
 use geo_model::Bounds;
 use plain_world::Square;
 
-#[tactic(auto, using(crate::proofs::BoxLaws::side_most))]
+#[tactic(auto, using(plain_world::proofs::Windows::side_most))]
 fn side_at(z: u32) -> u64
     requires { z ≤ 18 }
     ensures value { result ≡ side_at z }

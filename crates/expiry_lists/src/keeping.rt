@@ -1,20 +1,19 @@
 //! The clean entries, as a saved farm keeps them.
-ghost use Rattle.std.specs.Prelude.{◌≡◌, ◌+◌, ◌<◌, ℕ, false, length, slice_index_or, vec_len, IfOk, IsPermutation};
+ghost use Rattle.std.specs.Prelude.{◌≡◌, ◌+◌, ◌<◌, ℕ, false, length, slice_index_or, IfOk, IsPermutation};
 ghost use Rattle.farm_history.specs.declared.keys.Kept.{Kept};
 ghost use Rattle.farm_history.specs.Replays.{key_before};
 ghost use Rattle.expiry_lists.specs.inner.Keeping.{kept_at, kept_list};
 
-use crate::nodes::Node;
-use crate::table::Nodes;
+use crate::nodes::Nodes;
 use farm_base::NoMemory;
-use farm_history::{Kept, Key};
+use farm_history::{Kept, Key, Mark};
 use std::alloc::Global;
 
-// What is kept of a key: its version, where it is clean.
-fn kept_at(key: Key, node: Node) -> Option<Kept>
-    ensures { result ≡ kept_at key node.mark }
+// What is kept of a key with that mark: its version, where it is clean.
+fn kept_at(key: Key, mark: Option<Mark>) -> Option<Kept>
+    ensures { result ≡ kept_at key mark }
 {
-    match node.mark {
+    match mark {
         Some(mark) if mark.clean => Some(Kept {
             key,
             version: mark.version,
@@ -27,8 +26,14 @@ fn kept_at(key: Key, node: Node) -> Option<Kept>
 pub fn clean_entries(alloc: Global, nodes: &Nodes) -> Result<Vec<Kept>, NoMemory>
     ensures { IfOk result (λ v. v.items ≡ kept_list nodes.now.entries) }
 {
-    let clean = nodes.iter().filter_map(|(key, node)| kept_at(*key, *node));
-    Ok(clean.collect(alloc)?)
+    let mut clean = Vec::new(alloc);
+    for i in 0..nodes.len() {
+        let (key, mark) = nodes.at(i);
+        if let Some(kept) = kept_at(key, mark) {
+            clean.push(kept)?;
+        }
+    }
+    Ok(clean)
 }
 
 /// Sorts the entries by map, zoom, column and row.

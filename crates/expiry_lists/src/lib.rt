@@ -14,6 +14,7 @@ mod keeping;
 mod lists;
 mod marks;
 mod nodes;
+mod places;
 mod rectangles;
 mod table;
 mod waking;

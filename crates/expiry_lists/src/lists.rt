@@ -7,8 +7,7 @@ ghost use Rattle.expiry_lists.specs.Lists as spec;
 ghost use Rattle.expiry_lists.specs.declared.faults.ListFault.TheVariants as fault;
 
 use crate::faults::ListFault;
-use farm_base::MOST_LINES;
-use line_reading::{cut, first_line, small_number};
+use farm_base::{MOST_LINES, cut, first_line, small_number};
 use merc_fixed::tile;
 use plain_world::Tile;
 use reading::line_text;

@@ -9,10 +9,10 @@ ghost use Rattle.expiry_lists.specs.inner.Nodes.{has_bit};
 ghost use Rattle.expiry_lists.specs.Marks.{shown_key, mark_of, dirtied_marks, clean_marks, is_of_map, is_near_boxes, is_near_bits, is_in_box, rectangle, clean_version, InBox};
 
 use crate::keeping::{clean_entries, sort_by_key};
-use crate::nodes::{mark_one_dirty, settle_all};
+use crate::nodes::Nodes;
+use crate::places::{mark_one_dirty, settle_all};
 use crate::rectangles::mark_box_dirty;
-use crate::table::Nodes;
-use crate::waking::{drop_mark, own, put_mark, wake};
+use crate::waking::{drop_mark, put_mark, wake};
 use crate::walks::{
     is_some_live, mark_bits_boxes_dirty, mark_groups_dirty, mark_map_boxes_dirty, mark_map_dirty,
 };
@@ -96,7 +96,6 @@ impl Marks {
         let mask = clean_bit(key.map, clean);
         add_group(&mut self.groups, place.map);
         wake(&mut self.nodes, place, mask);
-        own(&mut self.nodes, place, mask);
         put_mark(&mut self.nodes, key, Mark { version, clean });
     }
 

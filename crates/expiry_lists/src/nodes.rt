@@ -1,174 +1,282 @@
-//! The nodes and the spots that marks are kept in: one look-up or write each.
-ghost use Rattle.std.specs.Prelude.{◌≡◌, ◌≢◌, ◌==◌, ◌^◌, ◌<◌, ◌≤◌, ◌&&◌, ℕ, not, Option, Some, None, option_map, bit_and, true, false, if◌then◌else◌};
-ghost use Rattle.std.specs.Map.{keys_of};
+//! The nodes and the spots that marks are kept in: what a table of versions and one of spots say together.
+ghost use Rattle.std.specs.Prelude.{◌≡◌, ◌^◌, ◌+◌, ◌<◌, ◌≤◌, ◌∷◌, ◌++◌, [], length, position, slice_get, option_map, bit_and, bit_or, OnOk, Option, Some, None, if◌then◌else◌, true, false};
+ghost use Rattle.std.specs.Int.{bit_not, w64};
+ghost use Rattle.std.specs.List.{IsDistinct};
+ghost use Rattle.std.specs.Map.{keys_of, set_value};
 ghost use Rattle.farm_history.specs.Plans.{same_key};
-ghost use Rattle.expiry_lists.specs.Marks.{touched_by};
 ghost use Rattle.farm_history.specs.declared.keys.Key.{Key};
-ghost use Rattle.expiry_lists.specs.inner.Nodes.{at_bits, bit_of, has_bit, has_spot, is_clean, is_clean_at, live_word, lives_at, own_word, parent, place_of, spot_of, IsTree, Quieter};
-ghost use Rattle.expiry_lists.specs.inner.Walks.{Walks};
+ghost use Rattle.expiry_lists.specs.inner.Nodes.{at_bits, bit_of, has_node, has_spot, is_clean_at, node_of, node_mark, owns_at, place_of, seen_mark, shown_of, spot_of, version_of, Gives, Owns};
+ghost use Rattle.expiry_lists.specs.inner.Walks.{Dirties};
 
-use crate::table::Nodes;
+use crate::table::{Spot, Tables};
+use farm_base::NoMemory;
 use farm_history::{Key, Mark};
+use std::alloc::Global;
+use std::marker::Model;
 
-/// What is kept of a key: its mark, where it is shown.
-#[derive(Clone, Copy)]
-pub struct Node {
-    pub mark: Option<Mark>,
+/// A node for each key that was shown, and a spot for each place.
+#[derive(Drop)]
+pub struct Nodes {
+    tables: Tables,
 }
 
-/// What is kept of a place for the 64 maps of a group: a bit for each whose key there may be clean, and one for each
-/// that may have a clean key there or below.
-#[derive(Clone, Copy)]
-pub struct Spot {
-    pub own: u64,
-    pub live: u64,
+impl Model for Nodes {
+    ghost use Rattle.expiry_lists.specs.inner.Nodes.{NodeTable, seen_nodes, AreOwned};
+
+    ghost Value = { NodeTable };
+
+    ghost view = { λ n. record { entries = seen_nodes n.tables.spots n.tables.versions; spots = n.tables.spots; room = n.tables.room; free = n.tables.free } };
+
+    ghost invariant = { λ n. AreOwned (seen_nodes n.tables.spots n.tables.versions) n.tables.spots };
 }
 
-/// Whether some map of the mask may have a clean key at the place or below it.
-pub fn is_live(nodes: &Nodes, place: Key, mask: u64) -> bool
-    ensures { result ≡ not (bit_and (live_word (spot_of nodes.now.spots place)) mask == 0) }
+/// The place of a key, for its group of 64 maps.
+pub fn place_of(key: Key) -> Key
+    ensures { result ≡ place_of key }
 {
-    match nodes.spot(place) {
-        Some(spot) => spot.live & mask != 0,
+    Key {
+        map: key.map / 64,
+        meta: key.meta,
+    }
+}
+
+/// The bit of a key's map in the words of its group.
+pub fn bit_of(key: Key) -> u64
+    ensures { result ≡ 2 ^ bit_of key }
+{
+    1 << (key.map % 64)
+}
+
+// Whether the key's map has its bit among its place's own.
+fn owns(tables: &Tables, key: Key) -> bool
+    ensures { result ≡ owns_at tables.now.spots (place_of key) (bit_of key) }
+{
+    match tables.spot(place_of(key)) {
+        Some(spot) => spot.own >> (key.map % 64) & 1 != 0,
         None => false,
     }
 }
 
-/// Makes the mark of a key dirty, and counts what was clean: 0 or 1.
-pub fn mark_one_dirty(nodes: &mut Nodes, key: Key) -> u64
-    requires { IsTree nodes.old.entries nodes.old.spots }
-    ensures walks { Walks (same_key key) nodes.old nodes.new result }
-    ensures keys { keys_of nodes.new.entries ≡ keys_of nodes.old.entries }
-    ensures spots { nodes.new.spots ≡ nodes.old.spots }
+// A word with one bit set or cleared.
+fn with_bit(word: u64, bit: u64, set: bool) -> u64
+    ensures { result ≡ (if set then bit_or word bit else bit_and word (bit_not w64 bit)) }
 {
-    let _count = nodes.len();
-    let Some((place, was)) = nodes.find(key) else {
-        return 0;
-    };
-    nodes.put_at(place, was.dirtied());
-    was.clean_count()
+    if set { word | bit } else { word & !bit }
 }
 
-// Makes the marks at a place dirty of the maps whose bits are in the word, and counts what was clean.
-fn mark_bits_dirty(nodes: &mut Nodes, place: Key, word: u64) -> u64
-    requires group { place.map < 2 ^ 26 }
-    requires tree { IsTree nodes.old.entries nodes.old.spots }
-    ensures walks { Walks (at_bits place word) nodes.old nodes.new result }
-    ensures spots { nodes.new.spots ≡ nodes.old.spots }
+// Sets the key's bit among its place's own, which has a spot then, or clears it.
+fn set_own(tables: &mut Tables, key: Key, clean: bool)
+    requires { clean ≡ true → has_spot tables.old.spots (place_of key) ≡ true }
+    ensures versions { tables.new.versions ≡ tables.old.versions }
+    ensures owns { Owns key clean tables.old.spots tables.new.spots }
+    ensures room { tables.new.room ≡ tables.old.room }
+    ensures free { tables.new.free ≡ tables.old.free }
 {
-    let _count = nodes.len();
-    let mut count = 0;
-    for bit in 0..64u32 {
-        count += mark_bit_dirty(nodes, place, word, bit);
-    }
-    count
-}
-
-// Makes the mark at a place dirty of the map with that bit, where it is in the word, and counts what was clean: 0 or 1.
-fn mark_bit_dirty(nodes: &mut Nodes, place: Key, word: u64, bit: u32) -> u64
-    requires group { place.map < 2 ^ 26 }
-    requires bit { bit < 64 }
-    requires tree { IsTree nodes.old.entries nodes.old.spots }
-    ensures walks { Walks (λ k. same_key place (place_of k) && ((bit_of k == bit) && has_bit word bit)) nodes.old nodes.new result }
-    ensures spots { nodes.new.spots ≡ nodes.old.spots }
-{
-    if word >> bit & 1 == 0 {
-        return 0;
-    }
-    let key = Key {
-        map: place.map * 64 + bit,
-        meta: place.meta,
-    };
-    mark_one_dirty(nodes, key)
-}
-
-/// Makes the marks at a place dirty of the maps whose bits are in the mask, and counts what was clean.
-pub fn mark_place_dirty(nodes: &mut Nodes, place: Key, mask: u64) -> u64
-    requires { IsTree nodes.old.entries nodes.old.spots }
-    ensures walks { Walks (at_bits place mask) nodes.old nodes.new result }
-{
-    let _before = nodes.len();
-    let Some((at, spot)) = nodes.find_spot(place) else {
-        return 0;
-    };
-    let word = spot.own & mask;
-    if word == 0 {
-        return 0;
-    }
-    let count = mark_bits_dirty(nodes, place, word);
-    let _after = nodes.len();
-    let own = spot.own & !mask;
-    nodes.put_spot_at(at, Spot { own, ..spot });
-    count
-}
-
-/// The same, and no map of the mask is live at the place any more.
-pub fn settle_place(nodes: &mut Nodes, place: Key, mask: u64) -> u64
-    requires tree { IsTree nodes.old.entries nodes.old.spots }
-    requires quiet_below { (p : Key) (b : ℕ) → 3 < p.meta.z → has_bit mask b ≡ true
-        → lives_at nodes.old.spots p b ≡ true → parent p ≢ place }
-    ensures walks { Walks (at_bits place mask) nodes.old nodes.new result }
-    ensures quiet { (b : ℕ) → has_bit mask b ≡ true → lives_at nodes.new.spots place b ≡ false }
-{
-    let _before = nodes.len();
-    let count = mark_place_dirty(nodes, place, mask);
-    let _after = nodes.len();
-    hush(nodes, place, mask);
-    count
-}
-
-fn hush(nodes: &mut Nodes, place: Key, mask: u64)
-    requires tree { IsTree nodes.old.entries nodes.old.spots }
-    requires dirty { (k : Key) → at_bits place mask k ≡ true → is_clean_at nodes.old.entries k ≡ false }
-    requires quiet_below { (p : Key) (b : ℕ) → 3 < p.meta.z → has_bit mask b ≡ true
-        → lives_at nodes.old.spots p b ≡ true → parent p ≢ place }
-    ensures entries { nodes.new.entries ≡ nodes.old.entries }
-    ensures tree { IsTree nodes.new.entries nodes.new.spots }
-    ensures there { (p : Key) → has_spot nodes.new.spots p ≡ has_spot nodes.old.spots p }
-    ensures quieter { Quieter nodes.old.spots nodes.new.spots }
-    ensures quiet { (b : ℕ) → has_bit mask b ≡ true → lives_at nodes.new.spots place b ≡ false }
-    ensures room { nodes.new.room ≡ nodes.old.room }
-    ensures free { nodes.new.free ≡ nodes.old.free }
-{
-    let Some((at, spot)) = nodes.find_spot(place) else {
+    let Some((at, spot)) = tables.find_spot(place_of(key)) else {
         return;
     };
-    let live = spot.live & !mask;
-    nodes.put_spot_at(at, Spot { live, ..spot });
+    let own = with_bit(spot.own, bit_of(key), clean);
+    tables.put_spot_at(at, Spot { own, ..spot });
 }
 
-/// Makes all marks dirty, entry by entry and not along the tree, and counts what was clean.
-pub fn settle_all(nodes: &mut Nodes) -> u64
-    requires { IsTree nodes.old.entries nodes.old.spots }
-    ensures walks { Walks (λ k. true) nodes.old nodes.new result }
+// Gives a key that version, in the room that was made for it where it has none.
+fn set_version(tables: &mut Tables, key: Key, version: u64)
+    requires { version_of tables.old.versions key ≡ None → 1 ≤ tables.old.room }
+    ensures versions { (k : Key) → version_of tables.new.versions k
+        ≡ (if same_key key k then Some (Some version) else version_of tables.old.versions k) }
+    ensures spots { tables.new.spots ≡ tables.old.spots }
+    ensures room { tables.old.room ≤ tables.new.room + 1 }
+    ensures known { (version_of tables.old.versions key ≡ None → false ≡ true) → tables.new.room ≡ tables.old.room }
+    ensures free { tables.new.free ≡ tables.old.free }
 {
-    let mut count = 0;
-    for i in 0..nodes.len() {
-        if let Some(was) = nodes.at(i) {
-            nodes.put_at(i, was.dirtied());
-            count += was.clean_count();
-        }
+    match tables.find(key) {
+        Some((place, _)) => tables.put_at(place, Some(version)),
+        None => tables.add(key, Some(version)),
     }
-    count
 }
 
-impl Node {
-    fn dirtied(self) -> Node
-        ensures { result ≡ record { mark = option_map (touched_by true) self.mark } }
+// Takes its version from a key.
+fn drop_version(tables: &mut Tables, key: Key)
+    ensures versions { (k : Key) → version_of tables.new.versions k
+        ≡ (if same_key key k then option_map (λ v. None) (version_of tables.old.versions k)
+        else version_of tables.old.versions k) }
+    ensures spots { tables.new.spots ≡ tables.old.spots }
+    ensures room { tables.new.room ≡ tables.old.room }
+    ensures free { tables.new.free ≡ tables.old.free }
+{
+    if let Some((place, _)) = tables.find(key) {
+        tables.put_at(place, None);
+    }
+}
+
+impl Nodes {
+    /// No nodes and no spots.
+    pub fn new(alloc: Global) -> Nodes
+        ensures entries { result.entries ≡ [] }
+        ensures spots { result.spots ≡ [] }
     {
-        let mark = self.mark.map(|mark| Mark {
-            clean: false,
-            ..mark
-        });
-        Node { mark }
+        Nodes {
+            tables: Tables::new(alloc),
+        }
     }
 
-    fn clean_count(self) -> u64
-        ensures { result ≡ (if is_clean self.mark then 1 else 0) }
+    /// Makes room for one node and so many spots more.
+    pub fn reserve(&mut self, spots: usize) -> Result<(), NoMemory>
+        ensures entries { self.new.entries ≡ self.old.entries }
+        ensures spots { self.new.spots ≡ self.old.spots }
+        ensures room { self.old.room ≤ self.new.room }
+        ensures free { self.old.free ≤ self.new.free }
+        ensures reserved { OnOk result ((1 ≤ self.new.room) × (spots ≤ self.new.free)) }
     {
-        match self.mark {
-            Some(mark) if mark.clean => 1,
-            _ => 0,
+        self.tables.reserve(spots)
+    }
+
+    /// How many nodes there are; no two have one key.
+    pub fn len(&self) -> usize
+        ensures len { result ≡ length self.now.entries }
+        ensures small { result < 2 ^ 64 }
+        ensures unique { IsDistinct same_key (keys_of self.now.entries) }
+    {
+        self.tables.len()
+    }
+
+    /// How many spots there are; no two have one key.
+    pub fn spots(&self) -> usize
+        ensures len { result ≡ length self.now.spots }
+        ensures unique { IsDistinct same_key (keys_of self.now.spots) }
+    {
+        self.tables.spots()
+    }
+
+    /// The spot at a place, with its key.
+    pub fn spot_at(&self, place: usize) -> (Key, Spot)
+        requires { place < length self.now.spots }
+        ensures { slice_get self.now.spots place ≡ Some result }
+    {
+        self.tables.spot_at(place)
+    }
+
+    /// The key at a place with its mark.
+    pub fn at(&self, place: usize) -> (Key, Option<Mark>)
+        requires { place < length self.now.entries }
+        ensures { slice_get self.now.entries place ≡ Some (result.0, record { mark = result.1 }) }
+    {
+        let (key, version) = self.tables.at(place);
+        (key, seen(&self.tables, key, version))
+    }
+
+    /// The mark of a key; no two nodes have one key.
+    pub fn mark_of(&self, key: Key) -> Option<Mark>
+        ensures mark { result ≡ node_mark (node_of self.now.entries key) }
+        ensures unique { IsDistinct same_key (keys_of self.now.entries) }
+    {
+        let _count = self.tables.len();
+        match self.tables.version(key) {
+            Some(version) => seen(&self.tables, key, version),
+            None => None,
         }
+    }
+
+    /// The spot of a place.
+    pub fn spot(&self, place: Key) -> Option<Spot>
+        ensures { result ≡ spot_of self.now.spots place }
+    {
+        self.tables.spot(place)
+    }
+
+    /// The spot of a place, with where it stands.
+    pub fn find_spot(&self, place: Key) -> Option<(usize, Spot)>
+        ensures place { option_map (λ f. f.0) result ≡ position (same_key place) (keys_of self.now.spots) }
+        ensures spot { option_map (λ f. f.1) result ≡ spot_of self.now.spots place }
+    {
+        self.tables.find_spot(place)
+    }
+
+    /// Adds the spot of a place that has none, with these live bits, in the room that was made for it.
+    pub fn add_spot(&mut self, place: Key, live: u64)
+        requires absent { spot_of self.old.spots place ≡ None }
+        requires free { 1 ≤ self.old.free }
+        ensures entries { self.new.entries ≡ self.old.entries }
+        ensures spots { self.new.spots ≡ self.old.spots ++ (place, record { own = 0; live = live }) ∷ [] }
+        ensures room { self.new.room ≡ self.old.room }
+        ensures free { self.old.free ≤ self.new.free + 1 }
+    {
+        self.tables.add_spot(place, Spot { own: 0, live });
+    }
+
+    /// Gives the spot of a place, which stands there, other live bits.
+    pub fn put_live(&mut self, at: usize, place: Key, spot: Spot, live: u64)
+        requires at { position (same_key place) (keys_of self.old.spots) ≡ Some at }
+        requires found { spot_of self.old.spots place ≡ Some spot }
+        ensures entries { self.new.entries ≡ self.old.entries }
+        ensures spots { self.new.spots
+            ≡ set_value (same_key place) self.old.spots (record spot { live = live }) }
+        ensures room { self.new.room ≡ self.old.room }
+        ensures free { self.new.free ≡ self.old.free }
+    {
+        self.tables.put_spot_at(at, Spot { live, ..spot });
+    }
+
+    /// Makes the keys at a place dirty of the maps of the mask, and counts what was clean. Their bits are taken from the
+    /// own ones of its spot, which stands there.
+    pub fn take_own(&mut self, at: usize, place: Key, spot: Spot, mask: u64) -> u64
+        requires at { position (same_key place) (keys_of self.old.spots) ≡ Some at }
+        requires found { spot_of self.old.spots place ≡ Some spot }
+        ensures dirties { Dirties (at_bits place mask) (shown_of self.old.entries)
+            (shown_of self.new.entries) result }
+        ensures keys { keys_of self.new.entries ≡ keys_of self.old.entries }
+        ensures spots { self.new.spots ≡ set_value (same_key place) self.old.spots
+            (record spot { own = bit_and spot.own (bit_not w64 mask) }) }
+        ensures room { self.new.room ≡ self.old.room }
+        ensures free { self.new.free ≡ self.old.free }
+    {
+        let _count = self.tables.len();
+        let count = (spot.own & mask).count_ones();
+        let own = spot.own & !mask;
+        self.tables.put_spot_at(at, Spot { own, ..spot });
+        u64::from(count)
+    }
+
+    /// Gives a key whose place has a spot that mark, in the room that was made for it where it has no node.
+    pub fn give(&mut self, key: Key, mark: Mark)
+        requires there { has_spot self.old.spots (place_of key) ≡ true }
+        requires room { has_node self.old.entries key ≡ false → 1 ≤ self.old.room }
+        ensures nodes { Gives key (Some (record { mark = Some mark })) self.old.entries self.new.entries }
+        ensures owns { Owns key mark.clean self.old.spots self.new.spots }
+        ensures own { (k : Key) → is_clean_at self.new.entries k ≡ true
+            → owns_at self.new.spots (place_of k) (bit_of k) ≡ true }
+        ensures room { self.old.room ≤ self.new.room + 1 }
+        ensures known { has_node self.old.entries key ≡ true → self.new.room ≡ self.old.room }
+        ensures free { self.new.free ≡ self.old.free }
+    {
+        set_own(&mut self.tables, key, mark.clean);
+        set_version(&mut self.tables, key, mark.version);
+    }
+
+    /// Takes its mark from a key.
+    pub fn take(&mut self, key: Key)
+        ensures nodes { Gives key (option_map (λ n. record { mark = None }) (node_of self.old.entries key))
+            self.old.entries self.new.entries }
+        ensures owns { Owns key false self.old.spots self.new.spots }
+        ensures own { (k : Key) → is_clean_at self.new.entries k ≡ true
+            → owns_at self.new.spots (place_of k) (bit_of k) ≡ true }
+        ensures room { self.new.room ≡ self.old.room }
+        ensures free { self.new.free ≡ self.old.free }
+    {
+        set_own(&mut self.tables, key, false);
+        drop_version(&mut self.tables, key);
+    }
+}
+
+// The mark of a key that has that version.
+fn seen(tables: &Tables, key: Key, version: Option<u64>) -> Option<Mark>
+    ensures { result ≡ seen_mark tables.now.spots key version }
+{
+    match version {
+        Some(version) => Some(Mark {
+            version,
+            clean: owns(tables, key),
+        }),
+        None => None,
     }
 }

@@ -8,8 +8,8 @@ ghost use Rattle.expiry_lists.specs.inner.Nodes.{IsTree};
 ghost use Rattle.expiry_lists.specs.inner.Walks.{Walks};
 
 use crate::boxes::comes_near;
-use crate::nodes::mark_one_dirty;
-use crate::table::Nodes;
+use crate::nodes::Nodes;
+use crate::places::mark_one_dirty;
 use farm_history::Key;
 use geo_model::Bounds;
 use merc_fixed::meta_square;
@@ -45,7 +45,7 @@ pub fn mark_box_dirty(nodes: &mut Nodes, map: u32, z: u32, b: Bounds) -> u64
 {
     let mut count = 0;
     for i in 0..nodes.len() {
-        let key = nodes.key_at(i);
+        let (key, _mark) = nodes.at(i);
         count += mark_key_dirty(nodes, key, map, z, b);
     }
     count

@@ -4,11 +4,10 @@ ghost use Rattle.farm_history.specs.declared.keys.Key.{Key};
 ghost use Rattle.farm_history.specs.Plans.{same_key};
 ghost use Rattle.plain_world.specs.World.{IsMeta};
 ghost use Rattle.expiry_lists.specs.Marks.{mark_of};
-ghost use Rattle.expiry_lists.specs.inner.Nodes.{has_bit, has_node, has_spot, is_clean, bit_of, lives_at, live_word, owns_at, parent, place_of, shown_of, spot_of, IsTree};
+ghost use Rattle.expiry_lists.specs.inner.Nodes.{has_bit, has_node, has_spot, bit_of, lives_at, live_word, parent, place_of, shown_of, spot_of, IsTree};
 ghost use Rattle.expiry_lists.specs.inner.Waking.{path_len, Wakes};
 
-use crate::nodes::{Node, Spot};
-use crate::table::Nodes;
+use crate::nodes::Nodes;
 use crate::walks::{ROOT_ZOOM, parent};
 use farm_history::{Key, Mark};
 
@@ -37,9 +36,9 @@ fn wake_one(nodes: &mut Nodes, place: Key, mask: u64)
     match nodes.find_spot(place) {
         Some((at, spot)) => {
             let live = spot.live | mask;
-            nodes.put_spot_at(at, Spot { live, ..spot });
+            nodes.put_live(at, place, spot, live);
         }
-        None => nodes.add_spot(place, Spot { own: 0, live: mask }),
+        None => nodes.add_spot(place, mask),
     }
 }
 
@@ -64,47 +63,25 @@ pub fn wake(nodes: &mut Nodes, place: Key, mask: u64)
     wake_one(nodes, place, mask);
 }
 
-/// Gives the maps of the mask their bits at a place that has a spot.
-pub fn own(nodes: &mut Nodes, place: Key, mask: u64)
-    requires tree { IsTree nodes.old.entries nodes.old.spots }
-    ensures entries { nodes.new.entries ≡ nodes.old.entries }
-    ensures tree { IsTree nodes.new.entries nodes.new.spots }
-    ensures there { (p : Key) → has_spot nodes.new.spots p ≡ has_spot nodes.old.spots p }
-    ensures lives { (p : Key) (b : ℕ) → lives_at nodes.new.spots p b ≡ lives_at nodes.old.spots p b }
-    ensures owned { has_spot nodes.old.spots place ≡ true → (b : ℕ) → has_bit mask b ≡ true → owns_at nodes.new.spots place b ≡ true }
-    ensures room { nodes.new.room ≡ nodes.old.room }
-    ensures free { nodes.new.free ≡ nodes.old.free }
-{
-    let Some((at, spot)) = nodes.find_spot(place) else {
-        return;
-    };
-    let own = spot.own | mask;
-    nodes.put_spot_at(at, Spot { own, ..spot });
-}
-
-/// Gives the key that mark, in place of what it had.
+/// Gives the key, whose place has a spot, that mark in place of what it had.
 pub fn put_mark(nodes: &mut Nodes, key: Key, mark: Mark)
     requires tree { IsTree nodes.old.entries nodes.old.spots }
     requires meta { IsMeta key.meta }
     requires there { has_spot nodes.old.spots (place_of key) ≡ true }
-    requires owned { mark.clean ≡ true → owns_at nodes.old.spots (place_of key) (bit_of key) ≡ true }
     requires live { 3 ≤ key.meta.z → mark.clean ≡ true
         → lives_at nodes.old.spots (place_of key) (bit_of key) ≡ true }
     requires room { has_node nodes.old.entries key ≡ false → 1 ≤ nodes.old.room }
     ensures tree { IsTree nodes.new.entries nodes.new.spots }
     ensures marks { (k : Key) → mark_of (shown_of nodes.new.entries) k
         ≡ (if same_key key k then Some mark else mark_of (shown_of nodes.old.entries) k) }
-    ensures spots { nodes.new.spots ≡ nodes.old.spots }
+    ensures there { (p : Key) → has_spot nodes.new.spots p ≡ has_spot nodes.old.spots p }
     ensures room { nodes.old.room ≤ nodes.new.room + 1 }
     ensures known { has_node nodes.old.entries key ≡ true → nodes.new.room ≡ nodes.old.room }
     ensures free { nodes.new.free ≡ nodes.old.free }
 {
-    let _count = nodes.len();
-    let node = Node { mark: Some(mark) };
-    match nodes.find(key) {
-        Some((place, _)) => nodes.put_at(place, node),
-        None => nodes.add(key, node),
-    }
+    let _before = nodes.len();
+    nodes.give(key, mark);
+    let _after = nodes.len();
 }
 
 /// Takes its mark from a key.
@@ -113,13 +90,11 @@ pub fn drop_mark(nodes: &mut Nodes, key: Key)
     ensures tree { IsTree nodes.new.entries nodes.new.spots }
     ensures marks { (k : Key) → mark_of (shown_of nodes.new.entries) k
         ≡ (if same_key key k then None else mark_of (shown_of nodes.old.entries) k) }
-    ensures spots { nodes.new.spots ≡ nodes.old.spots }
+    ensures there { (p : Key) → has_spot nodes.new.spots p ≡ has_spot nodes.old.spots p }
     ensures room { nodes.new.room ≡ nodes.old.room }
     ensures free { nodes.new.free ≡ nodes.old.free }
 {
-    let _count = nodes.len();
-    let Some((place, _)) = nodes.find(key) else {
-        return;
-    };
-    nodes.put_at(place, Node { mark: None });
+    let _before = nodes.len();
+    nodes.take(key);
+    let _after = nodes.len();
 }

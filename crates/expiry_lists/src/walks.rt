@@ -10,8 +10,8 @@ ghost use Rattle.expiry_lists.specs.inner.Tiles.{world_key, is_flat, key_over, i
 ghost use Rattle.expiry_lists.specs.inner.Walks.{child, under_bits, above_bits, IsNode, Walks};
 
 use crate::boxes::{gather, margin_of, some_comes_near};
-use crate::nodes::{is_live, mark_place_dirty, settle_place};
-use crate::table::Nodes;
+use crate::nodes::Nodes;
+use crate::places::{is_live, mark_place_dirty, settle_place};
 use farm_history::Key;
 use geo_model::Bounds;
 use merc_fixed::meta_square;
@@ -119,9 +119,6 @@ fn mark_boxes_dirty(nodes: &mut Nodes, top: Key, mask: u64, size: u32, boxes: &m
     if near == 0 {
         return 0;
     }
-    if !is_live(nodes, top, mask) {
-        return 0;
-    }
     mark_near_dirty(nodes, top, mask, size, &mut boxes[..near])
 }
 
@@ -138,6 +135,9 @@ fn mark_near_dirty(nodes: &mut Nodes, top: Key, mask: u64, size: u32, boxes: &mu
     let _count = nodes.len();
     if top.meta.z == LAST_ZOOM {
         return mark_place_dirty(nodes, top, mask);
+    }
+    if !is_live(nodes, top, mask) {
+        return 0;
     }
     let first = mark_boxes_dirty(nodes, child(top, 0), mask, size, boxes);
     let second = mark_boxes_dirty(nodes, child(top, 1), mask, size, boxes);

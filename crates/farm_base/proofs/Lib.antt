@@ -1,2 +1,4 @@
 pub mod Outcomes
 mod Reading
+pub mod NumberTexts
+pub mod CutTexts

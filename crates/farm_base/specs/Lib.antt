@@ -4,3 +4,6 @@ pub mod InMemory
 pub mod Limits
 pub mod Outside
 pub mod Texts
+pub mod Cuts
+pub mod Laws
+pub mod Numbers

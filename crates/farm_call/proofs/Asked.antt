@@ -28,10 +28,10 @@ use Rattle.script_command.specs.inner.Runs as script
 use Rattle.render_command.specs.Courses.{render_course, render_course_by}
 use Rattle.render_command.specs.MetaCourses.{meta_course}
 use Rattle.farm_call.specs.Words.{AsksFor, IsCourse, Asks}
-use Rattle.port_events.specs.declared.ends.FrontDone.{FrontDone}
+use Rattle.reactor_ports.specs.declared.ends.FrontDone.{FrontDone}
 use Rattle.farm_call.specs.Call.{Work, puts, scripts, loads, serves}
 use Rattle.farm_call.specs.inner.Works.{Does}
-use Rattle.port_events.specs.Told.{PortsTold}
+use Rattle.reactor_ports.specs.Told.{PortsTold}
 use Rattle.farm_runs.specs.declared.each_front.EachFront.{EachFront}
 use Rattle.farm_call.specs.inner.Serving.{World, over}
 use Rattle.farm_call.specs.inner.Steps as serve

@@ -7,8 +7,8 @@ use Rattle.farm_base.specs.Outside.{Outside}
 use Rattle.farm_base.specs.declared.sinks.SinkFault.{SinkFault}
 use Rattle.tile_store.specs.Stores.{StoreTold, StorePuts, Stored, IfTold}
 use Rattle.tile_store.specs.declared.stores.StoreFault.TheVariants.{Failed}
-use Rattle.port_events.specs.declared.ends.FrontDone.{FrontDone}
-use Rattle.port_events.specs.declared.ends.FrontEnd.{FrontEnd}
+use Rattle.reactor_ports.specs.declared.ends.FrontDone.{FrontDone}
+use Rattle.reactor_ports.specs.declared.ends.FrontEnd.{FrontEnd}
 use Rattle.exit_status.specs.declared.stops.Stop.{Stop}
 use Rattle.exit_status.specs.declared.stops.Stop.TheVariants as stop
 use Rattle.farm_history.specs.declared.answers.Tally.{Tally as Totals}
@@ -23,7 +23,7 @@ use Rattle.farm_saved.specs.Writing.{saved_bytes}
 use Rattle.farm_refinement.specs.Seen.{FarmSeen}
 use Rattle.farm_core.specs.Answers.{at_saved}
 use Rattle.farm_core.specs.Begins.{Tells, origin}
-use Rattle.farm_events.specs.declared.lasting.LastingPart.{LastingPart}
+use Rattle.farm_shared.specs.declared.lasting.LastingPart.{LastingPart}
 use Rattle.farm_shared.specs.Seats.{plain}
 use Rattle.farm_shared.specs.Shared.{lasting_of, past, MayTell}
 use Rattle.turn_cell.specs.Turns.{by}
@@ -32,7 +32,7 @@ use Rattle.farm_laws.specs.Promise.{Promise}
 use Rattle.farm_laws.proofs.Promised.{keeps as keeps_promise}
 use Rattle.farm_runs.specs.Promise.{AreSeated, AreWorked, IsServed}
 use Rattle.farm_call.specs.inner.Fronts.{renderd_leaves, tiles_leave}
-use Rattle.front_leaves.proofs.Laws.{marked}
+use Rattle.front_loop.proofs.Leaves.{marked}
 use Rattle.tile_paths.specs.Paths.{saved_path}
 use Rattle.farm_call.specs.Beginnings.{HasEmptied, ResumesFrom}
 use Rattle.farm_call.specs.Endings.{why_ended, is_front_worn, is_broken, is_wanting, end_after_put, TellsCounts}

@@ -5,8 +5,8 @@ use Rattle.std.specs.Result.{result_map_both}
 use Rattle.farm_base.specs.Outside.{Outside, FilesTold, Rose}
 use Rattle.farm_base.specs.declared.sinks.SinkFault.{SinkFault}
 use Rattle.tile_store.specs.Stores.{StoreTold}
-use Rattle.port_events.specs.declared.ends.FrontDone.{FrontDone}
-use Rattle.port_events.specs.Told.{PortsTold}
+use Rattle.reactor_ports.specs.declared.ends.FrontDone.{FrontDone}
+use Rattle.reactor_ports.specs.Told.{PortsTold}
 use Rattle.exit_status.specs.Stops.{unreadable_line}
 use Rattle.exit_status.specs.Ends.{SinkAt, PutsAll, Reports, EndsWith}
 use Rattle.exit_status.specs.declared.stops.Stop.{Stop}

@@ -3,9 +3,9 @@ use Rattle.std.proofs.Common.{◌≡◌, ℕ, ◌⊎◌, inl, inr, Bool, List, [
 use Rattle.std.specs.Prelude.{Option}
 use Rattle.std.proofs.lemmas.List.{reverse-append, map-append}
 use Rattle.farm_laws.proofs.Sentences.{at_moment}
-use Rattle.port_events.specs.declared.ends.FrontEnd.{FrontEnd}
-use Rattle.port_events.specs.declared.ends.Rest.{Rest}
-use Rattle.port_events.specs.Told.{PortsTold}
+use Rattle.reactor_ports.specs.declared.ends.FrontEnd.{FrontEnd}
+use Rattle.reactor_ports.specs.declared.ends.Rest.{Rest}
+use Rattle.reactor_ports.specs.Told.{PortsTold}
 use Rattle.farm_history.specs.declared.queues.Reply.{Reply}
 use Rattle.farm_history.specs.declared.answers.Collected.{Collected}
 use Rattle.farm_history.specs.Entries.{Entry, Collect}

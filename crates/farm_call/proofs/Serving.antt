@@ -8,10 +8,10 @@ use Rattle.farm_base.specs.Outside as sink
 use Rattle.farm_base.specs.declared.sinks.SinkFault.{SinkFault}
 use Rattle.tile_store.specs.Stores.{StoreTold}
 use Rattle.tile_store.specs.declared.stores.StoreFault.TheVariants as fault
-use Rattle.port_events.specs.declared.ends.FrontEnd.{FrontEnd}
-use Rattle.port_events.specs.declared.events.PortFault.{PortFault}
-use Rattle.port_events.specs.declared.events.PortFault.TheVariants as port_fault
-use Rattle.port_events.specs.Told.{PortsTold, ListenCounts}
+use Rattle.reactor_ports.specs.declared.ends.FrontEnd.{FrontEnd}
+use Rattle.reactor_ports.specs.declared.events.PortFault.{PortFault}
+use Rattle.reactor_ports.specs.declared.events.PortFault.TheVariants as port_fault
+use Rattle.reactor_ports.specs.Told.{PortsTold, ListenCounts}
 use Rattle.exit_status.specs.Stops.{refused_line}
 use Rattle.exit_status.specs.Ends.{SinkAt}
 use Rattle.exit_status.specs.declared.stops.Stop.{Stop}
@@ -26,7 +26,7 @@ use Rattle.farm_refinement.specs.Stands.{StandsFor, failures}
 use Rattle.script_answers.specs.Answers.{tally_line}
 use Rattle.farm_shared.specs.Shared.{lasting_of, past}
 use Rattle.farm_runs.specs.declared.each_front.EachFront.{EachFront}
-use Rattle.farm_events.specs.declared.lasting.LastingPart.{LastingPart}
+use Rattle.farm_shared.specs.declared.lasting.LastingPart.{LastingPart}
 use Rattle.farm_call.specs.Listens.{ListenEnds, Listening, listen_end}
 use Rattle.tile_paths.specs.Paths.{saved_path}
 use Rattle.farm_call.specs.Beginnings.{HasBegun, CannotBegin, IsSavedIn, RefusesFor, ResumesFrom, resumed_by}

@@ -4,8 +4,8 @@ use Rattle.std.specs.Prelude.{Result, Ok, Err, Vec}
 use Rattle.std.specs.declared.alloc.Global.{Global}
 use Rattle.farm_base.specs.Outside.{Outside}
 use Rattle.tile_store.specs.Stores.{StoreTold}
-use Rattle.port_events.specs.declared.ends.FrontDone.{FrontDone}
-use Rattle.port_events.specs.Told.{PortsTold}
+use Rattle.reactor_ports.specs.declared.ends.FrontDone.{FrontDone}
+use Rattle.reactor_ports.specs.Told.{PortsTold}
 use Rattle.exit_status.specs.Ends.{SinkAt}
 use Rattle.exit_status.specs.declared.stops.Stop.{Stop}
 use Rattle.exit_status.specs.declared.stops.Stop.TheVariants as stop

@@ -1,8 +1,8 @@
 -- What a call is handed, and what it leaves.
 use Rattle.std.specs.Prelude.{◌⊎◌, ℕ, List, Result}
 use Rattle.farm_base.specs.Outside.{Outside, Rose}
-use Rattle.port_events.specs.declared.ends.FrontDone.{FrontDone}
-use Rattle.port_events.specs.Told.{PortsTold}
+use Rattle.reactor_ports.specs.declared.ends.FrontDone.{FrontDone}
+use Rattle.reactor_ports.specs.Told.{PortsTold}
 use Rattle.exit_status.specs.Ends.{FilesAt, SinkAt}
 use Rattle.exit_status.specs.declared.stops.Stop.{Stop}
 use Rattle.farm_runs.specs.declared.each_front.EachFront.{EachFront}

@@ -4,8 +4,8 @@ use Rattle.std.specs.List.{list_any}
 use Rattle.farm_base.specs.Outside.{Outside, Puts}
 use Rattle.farm_base.specs.declared.sinks.SinkFault.{SinkFault}
 use Rattle.tile_store.specs.Stores.{StoreTold}
-use Rattle.port_events.specs.declared.ends.FrontEnd.{FrontEnd}
-use Rattle.port_events.specs.declared.ends.FrontEnd.TheVariants.{Broken, Worn, NoMemory}
+use Rattle.reactor_ports.specs.declared.ends.FrontEnd.{FrontEnd}
+use Rattle.reactor_ports.specs.declared.ends.FrontEnd.TheVariants.{Broken, Worn, NoMemory}
 use Rattle.exit_status.specs.Ends.{SinkAt}
 use Rattle.exit_status.specs.declared.stops.Stop.{Stop}
 use Rattle.exit_status.specs.declared.stops.Stop.TheVariants as stop

@@ -1,10 +1,10 @@
 -- How the ports of a farm are listened on.
 use Rattle.std.specs.Prelude.{◌≡◌, ℕ, List, [], ◌∷◌, Result, Ok, Err}
 use Rattle.farm_base.specs.Outside.{Outside}
-use Rattle.port_events.specs.declared.events.PortFault.{PortFault}
-use Rattle.port_events.specs.declared.events.PortFault.TheVariants as fault
-use Rattle.port_events.specs.Told as port
-use Rattle.port_events.specs.Told.{PortsTold, ListenCounts}
+use Rattle.reactor_ports.specs.declared.events.PortFault.{PortFault}
+use Rattle.reactor_ports.specs.declared.events.PortFault.TheVariants as fault
+use Rattle.reactor_ports.specs.Told as port
+use Rattle.reactor_ports.specs.Told.{PortsTold, ListenCounts}
 use Rattle.exit_status.specs.declared.stops.Stop.{Stop}
 use Rattle.exit_status.specs.declared.stops.Stop.TheVariants as stop
 

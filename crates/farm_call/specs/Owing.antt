@@ -1,8 +1,8 @@
 -- That a farm which was served owes nothing at its end.
 use Rattle.std.specs.Prelude.{◌≡◌, ℕ, Bool, List, [], ◌∷◌, ◌++◌, Option}
-use Rattle.port_events.specs.declared.ends.FrontEnd.{FrontEnd}
-use Rattle.port_events.specs.declared.ends.Rest.{Rest}
-use Rattle.port_events.specs.Told.{PortsTold}
+use Rattle.reactor_ports.specs.declared.ends.FrontEnd.{FrontEnd}
+use Rattle.reactor_ports.specs.declared.ends.Rest.{Rest}
+use Rattle.reactor_ports.specs.Told.{PortsTold}
 use Rattle.farm_history.specs.Entries.{Entry}
 use Rattle.front_loop.specs.Rules.{EachSoFar, Rules}
 use Rattle.front_loop.specs.Rounds.{FrontRound}

@@ -7,8 +7,8 @@ use Rattle.farm_base.specs.Limits.{most_turns}
 use Rattle.farm_base.specs.Outside.{Outside}
 use Rattle.tile_store.specs.Stores.{StoreTold, StorePuts}
 use Rattle.tile_store.specs.declared.stores.StoreFault.TheVariants.{Failed}
-use Rattle.port_events.specs.declared.ends.FrontDone.{FrontDone}
-use Rattle.port_events.specs.Told.{PortsTold}
+use Rattle.reactor_ports.specs.declared.ends.FrontDone.{FrontDone}
+use Rattle.reactor_ports.specs.Told.{PortsTold}
 use Rattle.exit_status.specs.declared.stops.Stop.TheVariants as stop
 use Rattle.farm_history.specs.declared.answers.Collected.{Collected}
 use Rattle.farm_history.specs.Entries.{Entry, Collect, Stop as StopEntry}
@@ -27,10 +27,10 @@ use Rattle.farm_shared.specs.Shared.{lasting_of, past}
 use Rattle.turn_cell.specs.Turns.{by}
 use Rattle.farm_runs.specs.declared.each_front.EachFront.{EachFront}
 use Rattle.farm_runs.specs.Promise.{Ends, AreSeated, IsServed, AreWorked, IsStop}
-use Rattle.renderd_handler.specs.Renderd.{renderd_rules}
-use Rattle.http_handler.specs.Tiles.{tile_rules}
-use Rattle.control_handler.specs.Control.{control_rules}
-use Rattle.front_leaves.specs.Fronts.{FrontLeaves}
+use Rattle.session_front.specs.Renderd.{renderd_rules}
+use Rattle.tile_front.specs.Tiles.{tile_rules}
+use Rattle.control_front.specs.Control.{control_rules}
+use Rattle.front_loop.specs.Leaves.{FrontLeaves}
 use Rattle.farm_files.specs.Inputs.{ServeInputs}
 use Rattle.farm_call.specs.Beginnings.{ResumesFrom}
 use Rattle.tile_paths.specs.Paths.{saved_path}

@@ -11,7 +11,7 @@ use crate::ends::FarmEnd;
 use crate::left::Left;
 use exit_status::{Stop, report};
 use farm_base::{Bell, Files, Sink};
-use port_events::{Ports, ThreePorts};
+use reactor_ports::{Ports, ThreePorts};
 use std::alloc::Global;
 use std::env;
 use std::io::{self, ErrorKind};

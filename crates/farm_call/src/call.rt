@@ -13,7 +13,7 @@ use exit_status::{Stop, report};
 use farm_base::{Bell, Files, Sink};
 use farm_words::{Command, WordsFault, read_words};
 use load_command::load;
-use port_events::{Ports, ThreePorts};
+use reactor_ports::{Ports, ThreePorts};
 use render_command::{RenderWords, meta, render};
 use script_command::script;
 use std::alloc::Global;

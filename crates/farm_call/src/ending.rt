@@ -11,7 +11,7 @@ use crate::winding::wind_up;
 use farm_base::Sink;
 use farm_plan::Tally;
 use farm_runs::{EachFront, Run};
-use port_events::FrontDone;
+use reactor_ports::FrontDone;
 use std::alloc::Global;
 use tile_store::TileStore;
 

@@ -2,7 +2,7 @@
 ghost use Rattle.std.specs.Prelude.{◌≡◌};
 
 use crate::left::Left;
-use port_events::FrontDone;
+use reactor_ports::FrontDone;
 use tile_store::TileStore;
 
 /// How a call ended.

@@ -4,7 +4,7 @@ ghost use Rattle.farm_call.specs.declared.left.Left.TheVariants.{Store};
 
 use exit_status::Stop;
 use farm_shared::Closed;
-use port_events::FrontDone;
+use reactor_ports::FrontDone;
 use std::alloc::Global;
 use tile_store::TileStore;
 

@@ -4,7 +4,7 @@ ghost use Rattle.farm_call.specs.Listens.{ListenEnds, Listening};
 ghost use Rattle.farm_call.specs.Listens as spec;
 
 use exit_status::Stop;
-use port_events::{PortFault, Ports, ThreePorts};
+use reactor_ports::{PortFault, Ports, ThreePorts};
 
 // Why a call ends in which ports do not listen.
 fn stop_of(fault: PortFault) -> Stop

@@ -4,7 +4,7 @@ ghost use Rattle.std.specs.List.{list_any};
 ghost use Rattle.farm_call.specs.Endings as spec;
 
 use exit_status::Stop;
-use port_events::FrontEnd;
+use reactor_ports::FrontEnd;
 
 // Whether a front ended since all turns were drawn.
 fn any_worn(ends: &[FrontEnd]) -> bool

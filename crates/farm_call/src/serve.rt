@@ -22,7 +22,7 @@ use farm_config::Config;
 use farm_core::Farm;
 use farm_files::{FarmInputs, ServeInputs, serve_files};
 use farm_runs::{Fronts, run_farm};
-use port_events::{FrontDone, Ports, ThreePorts};
+use reactor_ports::{FrontDone, Ports, ThreePorts};
 use session_front::Renderd;
 use std::alloc::Global;
 use std::rt::Clock;

@@ -2,8 +2,8 @@
 use Rattle.std.specs.Prelude.{◌≡◌, ℕ, ◌≤◌, ◌<◌, ◌⊎◌, Bool, false, ◌&&◌, nat_le, if◌then◌else◌, List, ◌++◌, length, codes, Option, Some, None, option_and_then, is_some, IsTrue, ◌↔◌}
 use Rattle.std.specs.Fmt.{decimal}
 use Rattle.std.specs.Str.{bytes_eq}
-use Rattle.line_reading.specs.Cuts.{cut_at}
-use Rattle.line_reading.specs.Numbers.{decimal_below}
+use Rattle.farm_base.specs.Cuts.{cut_at}
+use Rattle.farm_base.specs.Numbers.{decimal_below}
 use Rattle.farm_config.specs.Limits.{most_path_bytes}
 
 -- what stands behind an octet, a number below 256, and this byte

@@ -1,11 +1,11 @@
 //! The addresses at which a farm listens.
 ghost use Rattle.std.specs.Prelude.{◌≡◌, ◌<◌, if◌then◌else◌, Some, None, is_some, option_map, option_and_then};
-ghost use Rattle.line_reading.specs.Cuts.{cut_at};
-ghost use Rattle.line_reading.specs.Numbers.{decimal_below};
+ghost use Rattle.farm_base.specs.Cuts.{cut_at};
+ghost use Rattle.farm_base.specs.Numbers.{decimal_below};
 ghost use Rattle.farm_config.specs.Addresses as spec;
 
 use crate::limits::MOST_PATH_BYTES;
-use line_reading::{cut, number_below};
+use farm_base::{cut, number_below};
 
 fn after_number(text: &str, end: char, bound: u32) -> Option<&str>
     requires { end < 128 }

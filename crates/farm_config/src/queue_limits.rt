@@ -1,9 +1,11 @@
 //! The limits of the queues.
-ghost use Rattle.std.specs.Prelude.{◌≡◌, IfOk, option_map};
+ghost use Rattle.std.specs.Prelude.{◌≡◌, ◌≤◌, IfOk, option_map};
+ghost use Rattle.serde_json.specs.Find.{get};
 ghost use Rattle.serde_json.specs.View.{view};
 ghost use Rattle.reading.specs.Values.{or_value};
 ghost use Rattle.farm_history.specs.Limits.{AreLimits};
 ghost use Rattle.farm_config.specs.Configs as plain;
+ghost use Rattle.farm_config.specs.Kinds.{number_within};
 ghost use Rattle.farm_config.specs.Tables as spec;
 
 use crate::fault::ConfigFault;
@@ -20,6 +22,17 @@ const GREATEST: Limits = Limits {
     bulk: MOST_WAITING,
 };
 
+// A limit of at least 1, the greatest where it is absent.
+fn limit(object: &Value, name: &str, greatest: u32) -> Result<u32, ConfigFault>
+    requires { 1 ≤ greatest }
+    ensures value { result ≡ or_value greatest (number_within 6 1 greatest)
+        (get name.now (view object.now)) }
+    ensures some { IfOk result (λ n. 1 ≤ n) }
+    ensures few { IfOk result (λ n. n ≤ greatest) }
+{
+    number_or(object, name, 6, 1, greatest, greatest)
+}
+
 #[tactic(auto, unfolding(crate::specs::Tables::limits_of))]
 fn limits(object: &Value) -> Result<Limits, ConfigFault>
     ensures value { result ≡ spec.limits_of (view object.now) }
@@ -27,11 +40,11 @@ fn limits(object: &Value) -> Result<Limits, ConfigFault>
 {
     open_limits(object)?;
     Ok(Limits {
-        prio: number_or(object, "prio", 6, 1, MOST_WAITING, MOST_WAITING)?,
-        request: number_or(object, "request", 6, 1, MOST_WAITING, MOST_WAITING)?,
-        low: number_or(object, "low", 6, 1, MOST_WAITING, MOST_WAITING)?,
-        dirty: number_or(object, "dirty", 6, 1, MOST_DIRTY, MOST_DIRTY)?,
-        bulk: number_or(object, "bulk", 6, 1, MOST_WAITING, MOST_WAITING)?,
+        prio: limit(object, "prio", MOST_WAITING)?,
+        request: limit(object, "request", MOST_WAITING)?,
+        low: limit(object, "low", MOST_WAITING)?,
+        dirty: limit(object, "dirty", MOST_DIRTY)?,
+        bulk: limit(object, "bulk", MOST_WAITING)?,
     })
 }
 

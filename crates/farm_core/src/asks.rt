@@ -4,11 +4,9 @@ ghost use Rattle.farm_base.specs.Limits.{most_asks, most_asks_of_one};
 ghost use Rattle.farm_history.specs.Plans.{is_dirty_command, is_in, is_lifting, is_servable, key_of, own_queue, same_queue};
 ghost use Rattle.farm_history.specs.declared.queues.Queue.{Queue};
 ghost use Rattle.farm_history.specs.inner.Asks.{answer_of_waiting};
-ghost use Rattle.farm_history.specs.Seen.{is_clean_mark};
 ghost use Rattle.render_queues.specs.Tables.{AreSound, open_count, open_of};
 ghost use Rattle.farm_core.specs.inner.Asks.{Dirtied, DirtiesKey, Needs, answer_at, noted_tables, rendered_at, rendered_counts};
 ghost use Rattle.farm_history.specs.Entries.{Ask, Entry};
-ghost use Rattle.farm_history.specs.Past.{number_in};
 ghost use Rattle.farm_plan.specs.Drawings.{plan_of};
 ghost use Rattle.farm_core.specs.Answers.{Lasts};
 ghost use Rattle.farm_refinement.specs.Stands.{StandsFor};
@@ -49,15 +47,6 @@ fn is_dirty_command(cmd: Cmd) -> bool
     match cmd {
         Cmd::Dirty => true,
         Cmd::Prio | Cmd::Render | Cmd::Low | Cmd::Bulk => false,
-    }
-}
-
-fn is_clean(mark: Option<Mark>) -> bool
-    ensures { result ≡ is_clean_mark mark }
-{
-    match mark {
-        Some(mark) => mark.clean,
-        None => false,
     }
 }
 
@@ -174,23 +163,6 @@ fn place_dirty(queues: &mut Queues, key: Key)
     queues.place(key, Queue::Dirty, None);
 }
 
-/// One more, where that is said.
-pub(crate) fn one_more(n: u64, more: bool) -> u64
-    requires { n < 2 ^ 63 }
-    ensures { result ≡ (if more then n + 1 else n) }
-{
-    if more { n + 1 } else { n }
-}
-
-fn is_numbered(answer: AskAnswer) -> bool
-    ensures { result ≡ is_some (number_in answer) }
-{
-    match answer {
-        AskAnswer::Queued(_) | AskAnswer::Joined(_) | AskAnswer::Lifted(_) => true,
-        _ => false,
-    }
-}
-
 impl<D> Farm<D> {
     fn has_backlog(&self, conn: Conn) -> bool
         ensures { result ≡ (nat_le most_asks_of_one (open_of self.now.queues conn)
@@ -203,7 +175,7 @@ impl<D> Farm<D> {
         ensures answer { result ≡ answer_at self.now conn cmd key }
         ensures needs { Needs self.now.queues (own_queue cmd) key result }
     {
-        if is_clean(self.marks.of(key)) {
+        if matches!(self.marks.of(key), Some(mark) if mark.clean) {
             return AskAnswer::Done;
         }
         if self.has_backlog(conn) {
@@ -239,9 +211,14 @@ impl<D> Farm<D> {
         ensures { self.new ≡ record self.old { counts = rendered_counts answer self.old.counts } }
     {
         let counts = &mut self.counts;
-        counts.numbers = one_more(counts.numbers, is_numbered(answer));
         counts.asks += 1;
-        counts.done = one_more(counts.done, answer == AskAnswer::Done);
+        match answer {
+            AskAnswer::Queued(_) | AskAnswer::Joined(_) | AskAnswer::Lifted(_) => {
+                counts.numbers += 1;
+            }
+            AskAnswer::Done => counts.done += 1,
+            AskAnswer::NotDone(_) | AskAnswer::Silent => {}
+        }
     }
 
     fn mark_dirty(&mut self, key: Key)

@@ -7,7 +7,6 @@ ghost use Rattle.farm_refinement.specs.Stands.{StandsFor};
 ghost use Rattle.farm_core.specs.inner.Effects.{Collects};
 ghost use Rattle.farm_refinement.specs.inner.Events.{collected_by, tally_of};
 
-use crate::asks::one_more;
 use crate::farm::Farm;
 use farm_plan::{Collected, Conn, Outcome, Reply, Tally};
 use tile_store::TileStore;
@@ -29,7 +28,9 @@ impl<D> Farm<D> {
         ensures { Collects self.old self.new front result }
     {
         let reply = self.queues.collect(front)?;
-        self.counts.done = one_more(self.counts.done, is_done(reply));
+        if is_done(reply) {
+            self.counts.done += 1;
+        }
         Some(reply)
     }
 

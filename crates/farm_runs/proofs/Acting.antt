@@ -1,15 +1,15 @@
 -- What actors leave, from their calls.
 use Rattle.std.proofs.Common.{◌≡◌, inl, inr, ℕ, true, [], ◌∷◌, ◌++◌, Some, None, refl, sym, ap, ◌∙◌, subst}
 use Rattle.farm_history.specs.Entries.{Entry, Stop}
-use Rattle.port_events.specs.declared.ends.FrontDone.{FrontDone}
-use Rattle.port_events.specs.declared.ends.FrontEnd.{FrontEnd}
+use Rattle.reactor_ports.specs.declared.ends.FrontDone.{FrontDone}
+use Rattle.reactor_ports.specs.declared.ends.FrontEnd.{FrontEnd}
 use Rattle.turn_cell.specs.SeatStates.{Made, SeatState, IsSeatOf, SameSeat, worn_out}
 use Rattle.farm_shared.specs.Seats.{plain}
 use Rattle.farm_shared.specs.Shared.{Adds}
 use Rattle.render_workers.specs.declared.worker.WorkEnd.{WorkEnd}
 use Rattle.render_workers.specs.Rounds.{Worked, WorkOf}
 use Rattle.farm_runs.specs.declared.pool.Actor.{Actor}
-use Rattle.front_leaves.specs.Kinds.{IsUnbegun}
+use Rattle.front_loop.specs.Kinds.{IsUnbegun}
 use Rattle.farm_runs.specs.Actors.{WorkBy, IsReady, HasWorked}
 
 module _ {T : Type 0} where

@@ -6,8 +6,8 @@ use Rattle.std.proofs.lemmas.Option.{same_Some}
 use Rattle.farm_base.specs.Outside.{Outside}
 use Rattle.farm_history.specs.Entries.{Entry}
 use Rattle.farm_history.specs.Lists.{Each}
-use Rattle.port_events.specs.declared.ends.FrontDone.{FrontDone}
-use Rattle.port_events.specs.Told.{PortsTold}
+use Rattle.reactor_ports.specs.declared.ends.FrontDone.{FrontDone}
+use Rattle.reactor_ports.specs.Told.{PortsTold}
 use Rattle.turn_cell.specs.Turns.{StartsWith}
 use Rattle.turn_cell.specs.SeatStates.{Made, SeatState, IsSeatOf, SameSeat, joining, split_left, split_right}
 use Rattle.render_workers.specs.declared.worker.WorkEnd.{WorkEnd}
@@ -16,7 +16,7 @@ use Rattle.farm_runs.specs.declared.each_front.EachFront.{EachFront}
 use Rattle.farm_runs.specs.declared.pool.Actor.{Actor}
 use Rattle.farm_runs.specs.declared.together.FrontSeats.{FrontSeats}
 use Rattle.farm_runs.specs.declared.together.RunSeats.{RunSeats}
-use Rattle.front_leaves.specs.Kinds.{Leaving}
+use Rattle.front_loop.specs.Kinds.{Leaving}
 use Rattle.farm_runs.specs.Actors.{HasServed, HasWorked, IsFrontSeat, IsReady, AreStanding, HaveServed}
 use Rattle.farm_runs.specs.Promise.{is_worker_worn}
 use Rattle.farm_runs.specs.inner.Chain.{first_seat_after, notes, ends_in, Numbered, IsStart, IsSet, HasLeft, IsSpent, Ran}

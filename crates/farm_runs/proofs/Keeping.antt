@@ -16,12 +16,12 @@ use Rattle.farm_history.proofs.Lists.{each-both}
 use Rattle.farm_plan.specs.Plans.{AreRanged}
 use Rattle.farm_plan.specs.Drawings.{plan_of}
 use Rattle.farm_refinement.specs.Seen.{FarmSeen}
-use Rattle.port_events.specs.declared.ends.FrontDone.{FrontDone}
-use Rattle.port_events.specs.Told.{PortsTold}
+use Rattle.reactor_ports.specs.declared.ends.FrontDone.{FrontDone}
+use Rattle.reactor_ports.specs.Told.{PortsTold}
 use Rattle.turn_cell.specs.Turns.{by, NoneAbove, HasJoined, StartsWith}
 use Rattle.turn_cell.proofs.Logs.{starts_through}
 use Rattle.turn_cell.specs.SeatStates.{Made, SeatState, SameSeat, Knows, worn_out}
-use Rattle.farm_events.specs.declared.lasting.LastingPart.{LastingPart}
+use Rattle.farm_shared.specs.declared.lasting.LastingPart.{LastingPart}
 use Rattle.farm_shared.specs.declared.turned.Turned.{Turned}
 use Rattle.farm_shared.specs.Seats.{plain}
 use Rattle.farm_core.specs.Begins.{Tells}
@@ -33,7 +33,7 @@ use Rattle.farm_laws.specs.Promise.{Promise}
 use Rattle.farm_laws.proofs.Promised.{keeps}
 use Rattle.farm_runs.specs.declared.each_front.EachFront.{EachFront}
 use Rattle.farm_runs.specs.declared.pool.Actor.{Actor}
-use Rattle.front_leaves.specs.Kinds.{Leaving, AreOfFront}
+use Rattle.front_loop.specs.Kinds.{Leaving, AreOfFront}
 use Rattle.farm_runs.specs.Actors.{WorkBy, with_front_seats}
 use Rattle.farm_runs.specs.Promise.{Ends, own_entries, is_worker_worn, AreSeated, IsServed, AreWorked, IsStop, RunsWell}
 use Rattle.farm_runs.specs.inner.Chain.{first_seat_after, notes, ends_in, IsTally, HasLeft, IsSpent, Ran}

@@ -5,11 +5,11 @@ use Rattle.std.proofs.lemmas.List.Folds.{list_any-append}
 use Rattle.farm_history.specs.declared.answers.Tally.{Tally as Totals}
 use Rattle.farm_history.specs.Entries.{Entry, Claim, Stop}
 use Rattle.farm_history.specs.Lists.{Each}
-use Rattle.port_events.specs.declared.ends.FrontEnd.{FrontEnd}
+use Rattle.reactor_ports.specs.declared.ends.FrontEnd.{FrontEnd}
 use Rattle.farm_shared.specs.Seats.{gives_ticket, ends_ticket}
 use Rattle.render_workers.specs.declared.worker.WorkEnd.{WorkEnd}
 use Rattle.render_workers.specs.Rounds.{Round, Drew, FoundNone, FoundMany, round_entries, LastEntries, WorkOf}
-use Rattle.front_leaves.specs.Kinds.{IsOfFront, AreOfFront}
+use Rattle.front_loop.specs.Kinds.{IsOfFront, AreOfFront}
 use Rattle.farm_runs.specs.Actors.{WorkBy}
 use Rattle.farm_runs.specs.Promise.{own_entries, is_worker_worn}
 use Rattle.farm_runs.proofs.Settling.{gives, ends, Settled}

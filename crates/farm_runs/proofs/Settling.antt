@@ -15,8 +15,8 @@ use Rattle.farm_history.proofs.Lists.{each-append, each-map, each-filter, each-p
 use Rattle.farm_history.proofs.Apart.{job_is_next}
 use Rattle.farm_history.proofs.Numbers.{tickets_below}
 use Rattle.turn_cell.specs.Turns.{by}
-use Rattle.farm_events.specs.Seats.{plain, gives_ticket, ends_ticket, claimer, Seated, is_ended_by}
-use Rattle.farm_events.proofs.Flying.{claimer_new, no_end}
+use Rattle.farm_shared.specs.Seats.{plain, gives_ticket, ends_ticket, claimer, Seated, is_ended_by}
+use Rattle.farm_shared.proofs.Flying.{claimer_new, no_end}
 
 -- whether the entries give the ticket, and whether they end it
 abbrev pub gives : ℕ → List Entry → Bool

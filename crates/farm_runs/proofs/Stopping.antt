@@ -9,10 +9,10 @@ use Rattle.std.proofs.Math.Bool.{or-true}
 use Rattle.farm_history.specs.declared.answers.Tally.{Tally as Totals}
 use Rattle.farm_history.specs.Entries.{Entry, Stop, Tally}
 use Rattle.farm_history.specs.Lists.{Each}
-use Rattle.port_events.specs.declared.ends.FrontEnd.{FrontEnd}
+use Rattle.reactor_ports.specs.declared.ends.FrontEnd.{FrontEnd}
 use Rattle.turn_cell.specs.Turns.{by}
 use Rattle.farm_shared.specs.Seats.{plain}
-use Rattle.front_leaves.specs.Kinds.{IsOfFront, AreOfFront}
+use Rattle.front_loop.specs.Kinds.{IsOfFront, AreOfFront}
 use Rattle.farm_runs.specs.Promise.{own_entries}
 use Rattle.farm_runs.proofs.Owners.{is_stop}
 

@@ -2,12 +2,12 @@
 use Rattle.std.specs.Prelude.{ℕ, ◌+◌, ◌≡◌, Bool, true, List, [], Option, Some, None, MatchBool}
 use Rattle.farm_base.specs.Outside.{Outside}
 use Rattle.farm_history.specs.Entries.{Entry, Stop}
-use Rattle.port_events.specs.declared.ends.FrontDone.{FrontDone}
-use Rattle.port_events.specs.declared.ports.ThreePorts.{ThreePorts}
-use Rattle.port_events.specs.Told.{PortsTold}
+use Rattle.reactor_ports.specs.declared.ends.FrontDone.{FrontDone}
+use Rattle.reactor_ports.specs.declared.ports.ThreePorts.{ThreePorts}
+use Rattle.reactor_ports.specs.Told.{PortsTold}
 use Rattle.front_loop.specs.Rules.{Rules}
-use Rattle.front_leaves.specs.Kinds.{Leaving}
-use Rattle.front_leaves.specs.Fronts.{FrontLeaves}
+use Rattle.front_loop.specs.Kinds.{Leaving}
+use Rattle.front_loop.specs.Leaves.{FrontLeaves}
 use Rattle.turn_cell.specs.SeatStates.{Made, SeatState, IsSeatOf, SameSeat, Knows, joining, worn_out}
 use Rattle.farm_shared.specs.declared.turned.Turned.{Turned}
 use Rattle.farm_shared.specs.Seats.{plain}

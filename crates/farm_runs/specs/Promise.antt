@@ -11,9 +11,9 @@ use Rattle.farm_history.specs.Laws.{has_plain_update}
 use Rattle.farm_history.specs.Past.{flights}
 use Rattle.farm_refinement.specs.Seen.{FarmSeen}
 use Rattle.farm_core.specs.Begins.{Tells}
-use Rattle.port_events.specs.declared.ends.FrontDone.{FrontDone}
-use Rattle.port_events.specs.declared.ends.FrontEnd.{FrontEnd}
-use Rattle.port_events.specs.Told.{PortsTold}
+use Rattle.reactor_ports.specs.declared.ends.FrontDone.{FrontDone}
+use Rattle.reactor_ports.specs.declared.ends.FrontEnd.{FrontEnd}
+use Rattle.reactor_ports.specs.Told.{PortsTold}
 use Rattle.turn_cell.specs.Turns.{by, NoneAbove}
 use Rattle.farm_shared.specs.Seats.{plain}
 use Rattle.farm_shared.specs.Shared.{lasting_of, past, IsAfter}
@@ -21,7 +21,7 @@ use Rattle.render_workers.specs.declared.worker.WorkEnd.{WorkEnd}
 use Rattle.farm_laws.specs.Locality.{IsSentNow}
 use Rattle.farm_laws.specs.Promise.{Promise}
 use Rattle.farm_runs.specs.declared.each_front.EachFront.{EachFront}
-use Rattle.front_leaves.specs.Kinds.{Leaving}
+use Rattle.front_loop.specs.Kinds.{Leaving}
 use Rattle.farm_runs.specs.Actors.{WorkBy}
 
 -- A history H of a run is a list of pairs, a seat's number and an entry, in the order of the turns.

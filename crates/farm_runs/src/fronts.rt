@@ -1,7 +1,7 @@
 //! Three fronts in three threads, and what follows when they have ended.
 ghost use Rattle.std.specs.Prelude.{◌≡◌, true, []};
 ghost use Rattle.std.specs.Thread.{IsSend, IsSync};
-ghost use Rattle.front_leaves.specs.Kinds.{IsUnbegun};
+ghost use Rattle.front_loop.specs.Kinds.{IsUnbegun};
 ghost use Rattle.farm_runs.specs.Actors.{HasEnded, HasServed, IsFrontSeat, with_front_seats};
 ghost use Rattle.farm_shared.specs.Shared.{maps_of};
 ghost use Rattle.farm_shared.specs.Seats.{plain};
@@ -11,7 +11,7 @@ use crate::each_front::{EachFront, RunActors};
 use crate::serving::FrontServing;
 use farm_base::{Bell, Bells};
 use farm_shared::{Seat, SharedFarm, cross};
-use port_events::{FrontDone, FrontEnd, Ports};
+use reactor_ports::{FrontDone, FrontEnd, Ports};
 use std::alloc::Global;
 use std::rt::Clock;
 use std::sync::Wait;

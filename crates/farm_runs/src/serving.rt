@@ -2,8 +2,8 @@
 ghost use Rattle.std.specs.Prelude.{ℕ, List, Option, Bool};
 ghost use Rattle.farm_base.specs.Outside.{Outside};
 ghost use Rattle.farm_history.specs.Entries.{Entry};
-ghost use Rattle.port_events.specs.declared.ends.FrontDone.{FrontDone};
-ghost use Rattle.port_events.specs.Told.{PortsTold};
+ghost use Rattle.reactor_ports.specs.declared.ends.FrontDone.{FrontDone};
+ghost use Rattle.reactor_ports.specs.Told.{PortsTold};
 ghost use Rattle.farm_runs.specs.Actors.{HasServed, IsFrontSeat};
 ghost use Rattle.farm_shared.specs.Shared.{maps_of};
 
@@ -11,9 +11,8 @@ use crate::each_front::RunStart;
 use crate::fronts::turn_away;
 use farm_base::{Bell, Bells};
 use farm_shared::{Alarms, Seat, SharedFarm};
-use front_adapter::{FarmAdapter, serve_shared};
-use front_loop::{Context, Front};
-use port_events::{FrontDone, Ports};
+use front_loop::{Context, FarmAdapter, Front, serve_shared};
+use reactor_ports::{FrontDone, Ports};
 use std::rt::Clock;
 use std::sync::Wait;
 use tile_store::TileStore;
@@ -57,7 +56,7 @@ impl<F: Front> FrontServing for Threaded<F> {
 
     ghost leaves = { λ threaded maps. leaving F.rules threaded.front maps };
 
-    #[tactic(auto, using(front_leaves::proofs::Laws::unbegun))]
+    #[tactic(auto, using(front_loop::proofs::Leaves::unbegun))]
     fn serve_front<'a, R: Wait + Clock, D: TileStore, P: Ports, B: Bell>(
         &'a self,
         rt: &'a R,

@@ -14,7 +14,7 @@ use crate::pool::{Actor, work_all};
 use crate::serving::FrontServing;
 use farm_base::{Bell, Bells};
 use farm_shared::{Alarms, Seat, SharedFarm, cross};
-use port_events::{FrontDone, Ports, ThreePorts};
+use reactor_ports::{FrontDone, Ports, ThreePorts};
 use std::rt::Clock;
 use std::sync::Wait;
 use std::thread::{Threads, join_mut};

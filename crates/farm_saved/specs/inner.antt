@@ -1,2 +1,3 @@
 -- Words that serve inner contracts alone.
 pub mod Fields
+pub mod Behind

@@ -11,7 +11,6 @@ use farm_history::{Kept, Past};
 use std::alloc::Global;
 
 /// The styles of so many maps.
-#[tactic(auto, using(crate::proofs::Loops::many_more, crate::proofs::Loops::many_fail, crate::proofs::Loops::many_end))]
 pub fn styles(
     alloc: Global,
     count: u32,
@@ -38,7 +37,6 @@ pub fn styles(
 }
 
 /// So many updates.
-#[tactic(auto, using(crate::proofs::Loops::many_more, crate::proofs::Loops::many_fail, crate::proofs::Loops::many_end))]
 pub fn updates(
     alloc: Global,
     count: u64,
@@ -64,7 +62,7 @@ pub fn updates(
 }
 
 /// So many clean entries of a farm with so many updates.
-#[tactic(auto, using(crate::proofs::Loops::many_more, crate::proofs::Loops::many_fail, crate::proofs::Loops::many_end, crate::proofs::Sound::clean_push, crate::proofs::Sound::none_clean))]
+#[tactic(auto, using(crate::proofs::Sound::none_clean))]
 pub fn clean(
     alloc: Global,
     updates: u64,

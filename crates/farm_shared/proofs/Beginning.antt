@@ -11,7 +11,7 @@ use Rattle.farm_plan.specs.Drawings.{plan_of}
 use Rattle.farm_refinement.specs.Seen.{FarmSeen}
 use Rattle.farm_refinement.specs.Stands.{StandsFor}
 use Rattle.farm_core.specs.Begins.{origin, BeginsWell}
-use Rattle.farm_events.specs.Afters.{lasting_of, MayTell, IsAfter}
+use Rattle.farm_shared.specs.Afters.{lasting_of, MayTell, IsAfter}
 
 begins_well : (plan : FarmPlan) (saved : Option Saving) → length (origin plan saved) < 2 ^ 62 → BeginsWell (origin plan saved)
 unfolding flights ask_numbered

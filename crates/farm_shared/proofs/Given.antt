@@ -14,13 +14,13 @@ use Rattle.turn_cell.specs.Turns.{by}
 use Rattle.turn_cell.proofs.Logs.{by-own}
 use Rattle.turn_cell.specs.SeatStates.{Made, SeatState, Closes, Took, worn_out}
 use Rattle.farm_base.specs.declared.turns.Worn.{Worn}
-use Rattle.farm_events.specs.declared.lasting.LastingPart.{LastingPart}
+use Rattle.farm_shared.specs.declared.lasting.LastingPart.{LastingPart}
 use Rattle.farm_shared.specs.declared.turned.Turned.{Turned}
-use Rattle.farm_events.specs.Seats.{plain, ends_ticket, is_ended_by}
-use Rattle.farm_events.specs.Afters.{lasting_of, IsAfter, HasJob}
+use Rattle.farm_shared.specs.Seats.{plain, ends_ticket, is_ended_by}
+use Rattle.farm_shared.specs.Afters.{lasting_of, IsAfter, HasJob}
 use Rattle.farm_shared.specs.Shared.{lasts, OwnReply, IsClosed, IsLegalSo}
-use Rattle.farm_events.specs.Promises.{is_ended, own_of, IfReply, GivesJob, GivesReply}
-use Rattle.farm_events.proofs.Orders.{reverse_more, own_by}
+use Rattle.farm_shared.specs.Promises.{is_ended, own_of, IfReply, GivesJob, GivesReply}
+use Rattle.farm_shared.proofs.Orders.{reverse_more, own_by}
 
 -- without a Finish of anybody there is none of a seat
 none_by : (n t : ℕ) (xs : List (ℕ × Entry)) → is_ended t xs ≡ false → is_ended_by n t xs ≡ false

@@ -7,7 +7,7 @@ use Rattle.farm_plan.specs.Plans.{FarmPlan}
 use Rattle.farm_refinement.specs.Seen.{FarmSeen}
 use Rattle.farm_refinement.specs.Stands.{StandsFor}
 use Rattle.farm_core.specs.Begins.{Begins, Tells, origin}
-use Rattle.farm_events.specs.Afters.{MayTell, lasting_of}
+use Rattle.farm_shared.specs.Afters.{MayTell, lasting_of}
 
 module _ {D : Type 0} (state : D → Outside StoreTold) (plan : FarmPlan) (store : D) (farm : FarmSeen D) (b : Begins state plan None store farm) where
   none_past : origin farm.plan farm.saved ≡ []

@@ -12,10 +12,10 @@ use Rattle.farm_plan.specs.Drawings.{plan_of}
 use Rattle.farm_plan.specs.Plans.{maps_in}
 use Rattle.turn_cell.specs.Turns.{Follows}
 use Rattle.turn_cell.specs.SeatStates.{Made, SeatState}
-use Rattle.farm_events.specs.declared.lasting.LastingPart.{LastingPart}
-use Rattle.farm_events.specs.Seats.{plain}
-pub use Rattle.farm_events.specs.Afters.{lasting_of, past, MayTell, IsAfter, HasJob}
-pub use Rattle.farm_events.specs.Promises.{IfReply}
+use Rattle.farm_shared.specs.declared.lasting.LastingPart.{LastingPart}
+use Rattle.farm_shared.specs.Seats.{plain}
+pub use Rattle.farm_shared.specs.Afters.{lasting_of, past, MayTell, IsAfter, HasJob}
+pub use Rattle.farm_shared.specs.Promises.{IfReply}
 use Rattle.farm_shared.specs.declared.turned.Turned.{Turned}
 
 -- What stays.

@@ -1,7 +1,7 @@
 //! Who is to be woken when something happened.
+use crate::Wakes;
 use crossbeam_utils::sync::Unparker;
 use farm_base::{Bell, Bells};
-use farm_events::Wakes;
 
 /// The sleeping workers and the three fronts. It is made of references alone, so every thread may have one of
 /// its own.

@@ -32,7 +32,7 @@ impl<D: TileStore> SharedFarm<D> {
         ensures legal { IfOk result
             (λ _. IsLegalSo D.state (lasts D.state self.now) seat.new.seen) }
     {
-        self.turn(rt, seat, farm_events::Ask { conn, cmd, spot })
+        self.turn(rt, seat, crate::Ask { conn, cmd, spot })
     }
 
     /// A front takes the first of its replies, as `Farm::collect`, through its own seat. A reply is that of an ask
@@ -54,7 +54,7 @@ impl<D: TileStore> SharedFarm<D> {
             (λ _. IsLegalSo D.state (lasts D.state self.now) seat.new.seen) }
         ensures own { IfOk result (λ answer. OwnReply front seat.old.mine answer) }
     {
-        self.turn(rt, seat, farm_events::Collect { front })
+        self.turn(rt, seat, crate::Collect { front })
     }
 
     /// Forgets the open asks of a connection, as `Farm::leave`, through the seat of its front.
@@ -69,6 +69,6 @@ impl<D: TileStore> SharedFarm<D> {
         ensures legal { IfOk result
             (λ _. IsLegalSo D.state (lasts D.state self.now) seat.new.seen) }
     {
-        self.turn(rt, seat, farm_events::Leave { conn })
+        self.turn(rt, seat, crate::Leave { conn })
     }
 }

@@ -31,7 +31,7 @@ impl<D: TileStore> SharedFarm<D> {
         ensures legal { IfOk result
             (λ _. IsLegalSo D.state (lasts D.state self.now) seat.new.seen) }
     {
-        self.turn(rt, seat, farm_events::Update { alloc, number })
+        self.turn(rt, seat, crate::Update { alloc, number })
     }
 
     /// Applies the update of the number and expires what it reaches, as `Farm::renew`.
@@ -51,7 +51,7 @@ impl<D: TileStore> SharedFarm<D> {
         ensures legal { IfOk result
             (λ _. IsLegalSo D.state (lasts D.state self.now) seat.new.seen) }
     {
-        self.turn(rt, seat, farm_events::Renew { alloc, number })
+        self.turn(rt, seat, crate::Renew { alloc, number })
     }
 
     /// Gives a map the style of the number, as `Farm::restyle`.
@@ -70,7 +70,7 @@ impl<D: TileStore> SharedFarm<D> {
         ensures legal { IfOk result
             (λ _. IsLegalSo D.state (lasts D.state self.now) seat.new.seen) }
     {
-        self.turn(rt, seat, farm_events::Restyle { number })
+        self.turn(rt, seat, crate::Restyle { number })
     }
 
     /// Expires a tile, as `Farm::expire`.
@@ -85,7 +85,7 @@ impl<D: TileStore> SharedFarm<D> {
         ensures legal { IfOk result
             (λ _. IsLegalSo D.state (lasts D.state self.now) seat.new.seen) }
     {
-        self.turn(rt, seat, farm_events::Expire { tile: t })
+        self.turn(rt, seat, crate::Expire { tile: t })
     }
 
     /// Stops the farm for good, as `Farm::stop`.
@@ -99,6 +99,6 @@ impl<D: TileStore> SharedFarm<D> {
         ensures legal { IfOk result
             (λ _. IsLegalSo D.state (lasts D.state self.now) seat.new.seen) }
     {
-        self.turn(rt, seat, farm_events::Stop)
+        self.turn(rt, seat, crate::Stop)
     }
 }

@@ -7,7 +7,7 @@ ghost use Rattle.farm_history.specs.Replays.{IsSaved};
 ghost use Rattle.farm_plan.specs.Drawings.{plan_of};
 ghost use Rattle.farm_saved.specs.Savings.{IsSaving};
 ghost use Rattle.farm_refinement.specs.Stands.{StandsFor};
-ghost use Rattle.farm_events.specs.Afters.{IsAfter};
+ghost use Rattle.farm_shared.specs.Afters.{IsAfter};
 
 use crate::shared::Seat;
 use farm_base::NoMemory;

@@ -1,7 +1,7 @@
 //! What workers do: claims and ends of drawings.
 ghost use Rattle.std.specs.Prelude.{◌≡◌, IfOk, MatchResult};
 ghost use Rattle.farm_history.specs.Entries.{Claim, Finish};
-ghost use Rattle.farm_events.specs.Afters.{HasJob};
+ghost use Rattle.farm_shared.specs.Afters.{HasJob};
 ghost use Rattle.farm_shared.specs.Shared.{Adds, IsLegalSo, lasts};
 ghost use Rattle.turn_cell.specs.SeatStates.{IsSeatOf, Knows, SameSeat, worn_out};
 ghost use Rattle.farm_core.specs.Answers.{IfJob, IsDrawingOf, claim_answer, is_drawn};
@@ -32,7 +32,7 @@ impl<D: TileStore> SharedFarm<D> {
             × (job.worker ≡ worker)
             × HasJob (lasts D.state self.now) seat.new.number seat.new.seen job)) }
     {
-        self.turn(rt, seat, farm_events::Claim { worker })
+        self.turn(rt, seat, crate::Claim { worker })
     }
 
     /// A worker hands back its drawing, as `Farm::finish`. A Claim among the seat's own entries gave the job, and no
@@ -58,6 +58,6 @@ impl<D: TileStore> SharedFarm<D> {
         ensures legal { IfOk result
             (λ _. IsLegalSo D.state (lasts D.state self.now) seat.new.seen) }
     {
-        self.turn(rt, seat, farm_events::Finish { alloc, job, drawn })
+        self.turn(rt, seat, crate::Finish { alloc, job, drawn })
     }
 }

@@ -29,7 +29,7 @@ impl<D: TileStore> SharedFarm<D> {
         ensures legal { IfOk result
             (λ _. IsLegalSo D.state (lasts D.state self.now) seat.new.seen) }
     {
-        self.turn(rt, seat, farm_events::Fetch { alloc, spot })
+        self.turn(rt, seat, crate::Fetch { alloc, spot })
     }
 
     /// How a spot's metatile stands, as `Farm::look`.
@@ -43,7 +43,7 @@ impl<D: TileStore> SharedFarm<D> {
         ensures legal { IfOk result
             (λ _. IsLegalSo D.state (lasts D.state self.now) seat.new.seen) }
     {
-        self.turn(rt, seat, farm_events::Look { spot })
+        self.turn(rt, seat, crate::Look { spot })
     }
 
     /// The farm's counts, as `Farm::tally`.
@@ -57,6 +57,6 @@ impl<D: TileStore> SharedFarm<D> {
         ensures legal { IfOk result
             (λ _. IsLegalSo D.state (lasts D.state self.now) seat.new.seen) }
     {
-        self.turn(rt, seat, farm_events::Count)
+        self.turn(rt, seat, crate::Count)
     }
 }

@@ -1,6 +1,6 @@
 //! A farm as the lock has it, and an event as a turn of the lock.
+use crate::{Event, LastingPart};
 use farm_core::Farm;
-use farm_events::{Event, LastingPart};
 use farm_history::Event as Entry;
 use tile_store::TileStore;
 use turn_cell::{Call, StandsFor};
@@ -12,7 +12,7 @@ pub struct Turned<D> {
 }
 
 impl<D: TileStore> StandsFor for Turned<D> {
-    ghost use Rattle.farm_events.specs.Afters.{IsAfter, lasting_of};
+    ghost use Rattle.farm_shared.specs.Afters.{IsAfter, lasting_of};
 
     type Entry = Entry;
 
@@ -30,7 +30,7 @@ pub(crate) struct Turn<C> {
 }
 
 impl<D: TileStore, C: Event> Call<Turned<D>> for Turn<C> {
-    ghost use Rattle.farm_events.specs.Needs.{NeedOf};
+    ghost use Rattle.farm_shared.specs.Needs.{NeedOf};
 
     type Answer = C::Answer;
 

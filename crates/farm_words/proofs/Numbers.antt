@@ -1,8 +1,8 @@
 -- What is read as a number, told of what was answered.
 use Rattle.std.proofs.Common.{◌≡◌, ℕ, ◌<◌, List, Option, Some, None, sym, IfSome}
 use Rattle.std.specs.Fmt.{decimal}
-use Rattle.line_reading.specs.Numbers.{decimal_below}
-use Rattle.line_reading.proofs.NumberTexts.{number_means}
+use Rattle.farm_base.specs.Numbers.{decimal_below}
+use Rattle.farm_base.proofs.NumberTexts.{number_means}
 
 -- it is a number below the bound, and the text is it in decimal
 pub some_below : (bound : ℕ) (text : List ℕ) (r : Option ℕ) → r ≡ decimal_below bound text → IfSome r (λ n. (text ≡ decimal n) × (n < bound))

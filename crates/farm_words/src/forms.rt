@@ -16,14 +16,14 @@ fn number(text: &str) -> Option<u64>
     ensures some { IfSome result (λ n. (text.now ≡ decimal n) × (n < 2 ^ 64)) }
     ensures every { (n : ℕ) → n < 2 ^ 64 → text.now ≡ decimal n → result ≡ Some n }
 {
-    line_reading::number(text)
+    farm_base::number(text)
 }
 
 fn small_number(text: &str) -> Option<u32>
     ensures some { IfSome result (λ n. text.now ≡ decimal n) }
     ensures every { (n : ℕ) → n < 2 ^ 32 → text.now ≡ decimal n → result ≡ Some n }
 {
-    line_reading::small_number(text)
+    farm_base::small_number(text)
 }
 
 #[tactic(auto, using(plain_world::proofs::Windows::size_bounds))]

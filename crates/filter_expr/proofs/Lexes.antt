@@ -33,10 +33,6 @@ run_all p bs i h = omega (arith, prefix_len-drop_all p bs i h)
 pub number_step : (n : ℕ) (ds : List ℕ) (i : ℕ) → i < length ds → number_after n (drop i ds) ≡ number_after (10 * n + (get_or ds i 0 - 48)) (drop (i + 1) ds)
 number_step n ds i h = ap (number_after n) (drop_more ds i 0 h)
 
-pub number_grows : (n : ℕ) (ds : List ℕ) → n ≤ number_after n ds
-number_grows n [] = omega arith
-number_grows n (d ∷ ds) = omega (arith, number_grows (10 * n + (d - 48)) ds)
-
 -- ---- strings
 
 -- so many bytes stood before

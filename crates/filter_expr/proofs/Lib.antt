@@ -2,6 +2,7 @@ pub mod Chains
 pub mod Complete
 pub mod Connectives
 pub mod Final
+mod Firsts
 pub mod Forms
 pub mod Lexemes
 pub mod Lexes

@@ -1,5 +1,5 @@
 -- Names by their numbers, and filters whose names are numbers, node by node.
-use Rattle.std.proofs.Common.{◌≡◌, ℕ, zero, suc, ◌+◌, ◌<◌, ◌≤◌, Bool, true, List, [], ◌∷◌, ◌++◌, length, get_or, set, take, map, not, ◌||◌, ◌&&◌, refl, sym, ap, ◌∙◌, arith}
+use Rattle.std.proofs.Common.{◌≡◌, ℕ, zero, suc, ◌+◌, ◌<◌, ◌≤◌, true, List, [], ◌∷◌, ◌++◌, length, get_or, set, take, map, not, ◌||◌, ◌&&◌, refl, sym, ap, ◌∙◌, arith}
 use Rattle.std.specs.List.{list_any, list_all}
 use Rattle.std.specs.Str.{bytes_eq}
 use Rattle.std.proofs.lemmas.Slice.Eq.{bytes_eq-Decides}
@@ -10,7 +10,7 @@ use Rattle.std.specs.declared.vec.Vec.{Vec}
 use Rattle.std.specs.declared.alloc.Global.{Global}
 use Rattle.farm_base.specs.declared.Attr.{Attr}
 use Rattle.farm_base.specs.declared.Value.{Value}
-use Rattle.farm_base.specs.declared.Value.TheVariants.{Null, Truth}
+use Rattle.farm_base.specs.declared.Value.TheVariants.{Null, Truth, Whole, Text}
 use Rattle.plain_filters.specs.declared.CompareSign.{CompareSign}
 use Rattle.plain_filters.specs.Values.{truth, attribute, compares}
 use Rattle.plain_filters.specs.Filters.{FilterTree, or_tree, and_tree, not_tree, compare_tree, name_tree, trees_of, tree_value, any_true, all_true}
@@ -21,7 +21,7 @@ use Rattle.filter_expr.specs.declared.numbered.NumberedFilter.TheVariants as nod
 use Rattle.filter_expr.specs.declared.numbered.NumberedFilter.TheOpen as «open»
 use Rattle.filter_expr.specs.inner.Shown.{plain}
 use Rattle.filter_expr.specs.Looked.{Looked}
-use Rattle.filter_expr.specs.Numbered.{name_at, side_tree, numbered_step, stands_for, numbered_value}
+use Rattle.filter_expr.specs.Numbered.{name_at, constant, side_tree, numbered_step, stands_for, numbered_value}
 use Rattle.filter_expr.proofs.Nodes.{tree-Or, tree-And, tree-Not, tree-Compare}
 
 -- ---- names
@@ -73,6 +73,12 @@ value_past f attrs xs values n known past =
     no_value_at f attrs xs n (omega (arith, past, count))
 
 -- ---- filters
+
+pub constant_value : (attrs : List Attr) (v : Value) → tree_value attrs (constant v) ≡ v
+constant_value attrs Null = refl
+constant_value attrs (Truth b) = refl
+constant_value attrs (Whole z) = refl
+constant_value attrs (Text t) = refl
 
 rolled : (names : List (List ℕ)) (d : open.NumberedFilter-F NumberedFilter) (f : NumberedFilter) → roll-NumberedFilter d ≡ f →
     stands_for names f ≡ numbered_step names (map-NumberedFilter NumberedFilter FilterTree (stands_for names) d)

@@ -52,7 +52,7 @@ pub fn tokens(alloc: Global, text: &str) -> Result<TokenStream, NoMemory>
 }
 
 // The token that begins at this byte, which is no blank, and how many bytes it takes.
-#[tactic(auto, using(crate::proofs::Lexes::cuts), unfolding(crate::specs::Lexing::token_at))]
+#[tactic(auto, using(crate::proofs::Lexes::cuts))]
 fn token_at(alloc: Global, text: &str, at: usize) -> Result<(Token, usize), NoMemory>
     requires { at < length text.now }
     ensures { IfOk result (λ r. r ≡ token_at (drop at text.now)) }
@@ -146,7 +146,7 @@ fn number_token_at(bytes: &[u8]) -> (Token, usize)
     (number_token(&bytes[..count]), count)
 }
 
-#[tactic(auto, using(crate::proofs::Lexes::number_step, crate::proofs::Lexes::number_grows, crate::proofs::Lexes::number_some, crate::proofs::Lexes::number_none), unfolding(crate::specs::Lexing::number_token))]
+#[tactic(auto, using(crate::proofs::Lexes::number_step, farm_base::proofs::NumberTexts::number_grows, crate::proofs::Lexes::number_some, crate::proofs::Lexes::number_none), unfolding(crate::specs::Lexing::number_token))]
 fn number_token(digits: &[u8]) -> Token
     ensures { result ≡ number_token digits.now }
 {

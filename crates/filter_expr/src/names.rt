@@ -1,13 +1,13 @@
 //! The names of filters, and the values that they have for a feature.
 ghost use Rattle.std.specs.Prelude.{◌≡◌, IfOk, [], map, length};
-ghost use Rattle.plain_filters.specs.Values.{attribute};
+ghost use Rattle.plain_filters.specs.Values.{attribute, compares};
 ghost use Rattle.plain_filters.specs.Filters.{tree_value};
 ghost use Rattle.filter_expr.specs.Numbered.{name_at};
 ghost use Rattle.filter_expr.specs.inner.Shown.{plain};
 
-use crate::value::{ValueRef, attribute};
+use crate::value::{ValueRef, attribute, compares_there};
 use farm_base::{Attr, NoMemory};
-use plain_filters::Expr;
+use plain_filters::{CompareSign, Expr};
 use std::alloc::Global;
 use std::marker::Model;
 
@@ -140,6 +140,19 @@ impl<'a> NamedValues<'a> {
             self.values[number]
         } else {
             ValueRef::Null
+        }
+    }
+
+    /// What the sign tests of the value of the name of this number and another one.
+    #[inline]
+    pub fn compares(&self, number: usize, sign: CompareSign, w: &ValueRef<'_>) -> bool
+        ensures { result ≡ compares sign
+            (tree_value self.now.attrs (name_at self.now.names number)) (plain w.now) }
+    {
+        if number < self.values.len() {
+            compares_there(sign, &self.values[number], w)
+        } else {
+            compares_there(sign, &ValueRef::Null, w)
         }
     }
 }

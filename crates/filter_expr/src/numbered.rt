@@ -1,8 +1,8 @@
 //! Filters whose names are numbers in a list of names.
-ghost use Rattle.std.specs.Prelude.{◌≡◌, IfOk, IfSome, map};
+ghost use Rattle.std.specs.Prelude.{◌≡◌, ℕ, List, IfOk, IfSome, map};
 ghost use Rattle.std.specs.List.{list_any, list_all};
-ghost use Rattle.plain_filters.specs.Values.{truth};
-ghost use Rattle.plain_filters.specs.Filters.{name_tree, tree_of, tree_value};
+ghost use Rattle.plain_filters.specs.Values.{truth, compares};
+ghost use Rattle.plain_filters.specs.Filters.{name_tree, not_tree, tree_of, tree_value};
 ghost use Rattle.filter_expr.specs.Numbered.{name_at, side_tree, stands_for, numbered_value};
 ghost use Rattle.filter_expr.specs.inner.Shown.{plain};
 
@@ -66,6 +66,15 @@ fn side_of<'a>(e: &'a Expr, names: &[&str]) -> Side<'a>
     }
 }
 
+// The filter whose truth is that of the part, turned round.
+#[tactic(auto, using(crate::proofs::Numbers::nodes))]
+fn negated<'a>(alloc: Global, part: NumberedFilter<'a>) -> Result<NumberedFilter<'a>, NoMemory>
+    ensures { IfOk result (λ n. (names : List (List ℕ))
+        → stands_for names n ≡ not_tree (stands_for names part.entry)) }
+{
+    Ok(NumberedFilter::Not(Box::new(alloc, part)?))
+}
+
 /// The filter with its names numbered by their places in the list. Names that are not in it, and those within sums
 /// and products, stay as they are.
 #[cycle(numbering)]
@@ -80,10 +89,7 @@ pub fn numbered<'a>(
     match e {
         Expr::Or(parts) => Ok(NumberedFilter::Any(numbered_parts(alloc, parts, names)?)),
         Expr::And(parts) => Ok(NumberedFilter::All(numbered_parts(alloc, parts, names)?)),
-        Expr::Not(part) => {
-            let part = numbered(alloc, part, names)?;
-            Ok(NumberedFilter::Not(Box::new(alloc, part)?))
-        }
+        Expr::Not(part) => negated(alloc, numbered(alloc, part, names)?),
         Expr::Compare(a, sign, b) => {
             Ok(NumberedFilter::Compare(side_of(a, names), *sign, side_of(b, names)))
         }
@@ -119,6 +125,32 @@ fn value_of<'a>(side: Side<'a>, named: &NamedValues<'a>) -> ValueRef<'a>
     }
 }
 
+// What the sign tests of two sides. Most often a name is compared with a constant: neither value is copied then.
+#[inline]
+#[tactic(auto, using(crate::proofs::Numbers::constant_value))]
+fn side_compares<'a>(a: &Side<'a>, sign: CompareSign, b: &Side<'a>, named: &NamedValues<'a>) -> bool
+    ensures { result ≡ compares sign
+        (tree_value named.now.attrs (side_tree named.now.names a.now))
+        (tree_value named.now.attrs (side_tree named.now.names b.now)) }
+{
+    match (a, b) {
+        (Side::Named(number), Side::Constant(value)) => named.compares(*number, sign, value),
+        _ => compares(sign, value_of(*a, named), value_of(*b, named)),
+    }
+}
+
+/// Whether a comparison holds, where names have these values; none for another filter.
+#[inline]
+#[tactic(auto, using(crate::proofs::Numbers::values))]
+pub fn compared<'a>(filter: &NumberedFilter<'a>, named: &NamedValues<'a>) -> Option<bool>
+    ensures { IfSome result (λ b. b ≡ truth (numbered_value named.now filter.now)) }
+{
+    match filter {
+        NumberedFilter::Compare(a, sign, b) => Some(side_compares(a, *sign, b, named)),
+        _ => None,
+    }
+}
+
 /// Whether the filter's value counts as true, where names have these values.
 #[cycle(holding)]
 #[tactic(auto, using(crate::proofs::Numbers::values))]
@@ -129,9 +161,7 @@ pub fn numbered_holds<'a>(filter: &NumberedFilter<'a>, named: &NamedValues<'a>) 
         NumberedFilter::Any(parts) => any_holds(parts, named),
         NumberedFilter::All(parts) => all_hold(parts, named),
         NumberedFilter::Not(part) => !numbered_holds(part, named),
-        NumberedFilter::Compare(a, sign, b) => {
-            compares(*sign, value_of(*a, named), value_of(*b, named))
-        }
+        NumberedFilter::Compare(a, sign, b) => side_compares(a, *sign, b, named),
         NumberedFilter::Truth(a) => truth(value_of(*a, named)),
     }
 }
@@ -142,8 +172,14 @@ fn any_holds<'a>(parts: &[NumberedFilter<'a>], named: &NamedValues<'a>) -> bool
     ensures { result ≡ list_any truth (map (numbered_value named.now) parts.now) }
 {
     for part in parts {
-        if numbered_holds(part, named) {
-            return true;
+        match compared(part, named) {
+            Some(true) => return true,
+            Some(false) => {}
+            None => {
+                if numbered_holds(part, named) {
+                    return true;
+                }
+            }
         }
     }
     false
@@ -155,8 +191,14 @@ fn all_hold<'a>(parts: &[NumberedFilter<'a>], named: &NamedValues<'a>) -> bool
     ensures { result ≡ list_all truth (map (numbered_value named.now) parts.now) }
 {
     for part in parts {
-        if !numbered_holds(part, named) {
-            return false;
+        match compared(part, named) {
+            Some(true) => {}
+            Some(false) => return false,
+            None => {
+                if !numbered_holds(part, named) {
+                    return false;
+                }
+            }
         }
     }
     true

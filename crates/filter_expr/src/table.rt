@@ -1,11 +1,12 @@
 //! Filters that are asked of one feature after another.
 ghost use Rattle.std.specs.Prelude.{◌≡◌, ◌<◌, IfOk, [], map, length, get_or, option_map, None};
 ghost use Rattle.plain_filters.specs.Filters.{tree_of};
-ghost use Rattle.filter_expr.specs.Numbered.{stands_for};
+ghost use Rattle.plain_filters.specs.Values.{truth};
+ghost use Rattle.filter_expr.specs.Numbered.{stands_for, numbered_value};
 ghost use Rattle.filter_expr.specs.Looked.{passes};
 
 use crate::names::{NamedValues, list_names};
-use crate::numbered::{NumberedFilter, numbered, numbered_holds};
+use crate::numbered::{NumberedFilter, compared, numbered, numbered_holds};
 use farm_base::{Attr, NoMemory};
 use plain_filters::Expr;
 use std::alloc::Global;
@@ -76,6 +77,17 @@ fn numbered_filters<'a>(
     Ok(made)
 }
 
+// Whether the filter holds, where names have these values. One that compares is asked without a call.
+#[inline]
+fn filter_holds<'a>(filter: &NumberedFilter<'a>, named: &NamedValues<'a>) -> bool
+    ensures { result ≡ truth (numbered_value named.now filter.now) }
+{
+    match compared(filter, named) {
+        Some(holds) => holds,
+        None => numbered_holds(filter, named),
+    }
+}
+
 impl<'a> FilterTable<'a> {
     /// These filters, asked where there are no attributes.
     pub fn of(alloc: Global, filters: &[&'a Option<Expr>]) -> Result<FilterTable<'a>, NoMemory>
@@ -106,7 +118,7 @@ impl<'a> FilterTable<'a> {
         ensures { result ≡ passes self.now.attrs (get_or self.now.filters place None) }
     {
         match &self.filters[place] {
-            Some(filter) => numbered_holds(filter, &self.named),
+            Some(filter) => filter_holds(filter, &self.named),
             None => true,
         }
     }

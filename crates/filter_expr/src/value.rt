@@ -52,14 +52,14 @@ fn borrowed(v: &Value) -> ValueRef<'_>
 }
 
 #[inline]
-fn same(v: ValueRef<'_>, w: ValueRef<'_>) -> bool
-    ensures { result ≡ same (plain v.entry) (plain w.entry) }
+fn same(v: &ValueRef<'_>, w: &ValueRef<'_>) -> bool
+    ensures { result ≡ same (plain v.now) (plain w.now) }
 {
     match (v, w) {
         (ValueRef::Null, ValueRef::Null) => true,
-        (ValueRef::Truth(a), ValueRef::Truth(b)) => a == b,
-        (ValueRef::Whole(x), ValueRef::Whole(y)) => x == y,
-        (ValueRef::Text(s), ValueRef::Text(t)) => s == t,
+        (ValueRef::Truth(a), ValueRef::Truth(b)) => *a == *b,
+        (ValueRef::Whole(x), ValueRef::Whole(y)) => *x == *y,
+        (ValueRef::Text(s), ValueRef::Text(t)) => *s == *t,
         _ => false,
     }
 }
@@ -92,12 +92,24 @@ pub fn compares(sign: CompareSign, v: ValueRef<'_>, w: ValueRef<'_>) -> bool
     ensures { result ≡ compares sign (plain v.entry) (plain w.entry) }
 {
     match sign {
-        CompareSign::Equal => same(v, w),
-        CompareSign::Unequal => !same(v, w),
+        CompareSign::Equal => same(&v, &w),
+        CompareSign::Unequal => !same(&v, &w),
         CompareSign::Less => below(v, w),
         CompareSign::LessEqual => ordered(v, w) && !below(w, v),
         CompareSign::Greater => below(w, v),
         CompareSign::GreaterEqual => ordered(v, w) && !below(v, w),
+    }
+}
+
+/// The same of values that stay where they are: most are asked whether they are equal, and none is copied for that.
+#[inline]
+pub fn compares_there(sign: CompareSign, v: &ValueRef<'_>, w: &ValueRef<'_>) -> bool
+    ensures { result ≡ compares sign (plain v.now) (plain w.now) }
+{
+    match sign {
+        CompareSign::Equal => same(v, w),
+        CompareSign::Unequal => !same(v, w),
+        _ => compares(sign, *v, *w),
     }
 }
 

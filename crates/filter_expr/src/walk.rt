@@ -13,7 +13,6 @@ use plain_filters::{Expr, ProductPart, SumPart};
 /// The value of the filter for these attributes. Operators are those of Mapnik's
 /// filter expressions, with values of this farm's own: null, truth values, whole numbers and texts.
 #[cycle(eval)]
-#[tactic(auto, using(crate::proofs::Nodes::nodes))]
 pub fn eval<'a>(e: &'a Expr, attrs: &'a [Attr]) -> ValueRef<'a>
     ensures { plain result ≡ tree_value attrs.now (tree_of e.now) }
 {

@@ -1,5 +1,5 @@
 -- The text of each form of a filter, by the texts of its parts.
-use Rattle.std.proofs.Common.{◌≡◌, ℕ, ◌+◌, ◌<◌, ◌≤◌, Bool, if◌then◌else◌, ℤ, List, [], ◌∷◌, ◌++◌, length, get_or, drop, map, refl, ap, ◌∙◌}
+use Rattle.std.proofs.Common.{◌≡◌, ℕ, ◌+◌, ◌<◌, ◌≤◌, Bool, if◌then◌else◌, ℤ, List, [], ◌∷◌, ◌++◌, length, get_or, drop, map, refl, ap, ◌∙◌, append_assoc}
 use Rattle.std.proofs.lemmas.Bool.{lt-ltb, le-ltb}
 use Rattle.std.specs.declared.boxed.Box.{Box}
 use Rattle.std.specs.declared.vec.Vec.{Vec}
@@ -22,6 +22,11 @@ use Rattle.filter_texts.specs.inner.Pieces.{put_form, put_tree, put_parts, put_l
 put_both : (out : List ℕ) (ts us : List Token) → put_tokens out (ts ++ us) ≡ put_tokens (put_tokens out ts) us
 put_both out [] us = refl
 put_both out (t ∷ ts) us = put_both (put_behind out (spelling t)) ts us
+
+-- what follows a byte that was put behind
+pub behind_more : (out : List ℕ) (b : ℕ) (more end : List ℕ) → (put_behind out (b ∷ []) ++ more) ++ end ≡ put_behind out (b ∷ (more ++ end))
+behind_more [] b more end = refl
+behind_more (a ∷ out) b more end = append_assoc ((a ∷ out) ++ 32 ∷ b ∷ []) more end ∙ append_assoc (a ∷ out) (32 ∷ b ∷ []) (more ++ end)
 
 -- ---- later parts
 

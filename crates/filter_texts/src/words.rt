@@ -29,24 +29,24 @@ pub fn put_word(out: &mut String, word: &str) -> Result<(), NoMemory>
 }
 
 /// An attribute's name in brackets.
+#[tactic(auto, using(crate::proofs::Pieces::behind_more))]
 pub fn put_name(out: &mut String, name: &str) -> Result<(), NoMemory>
     ensures { OnOk result (string_bytes out.new
         ≡ put_behind (string_bytes out.old) (spelling (token.Name name.now))) }
 {
-    put_space(out)?;
-    out.push_str("[")?;
+    put_word(out, "[")?;
     out.push_str(name)?;
     out.push_str("]")?;
     Ok(())
 }
 
 /// A text between single quotes.
+#[tactic(auto, using(crate::proofs::Pieces::behind_more))]
 pub fn put_quoted(out: &mut String, text: &str) -> Result<(), NoMemory>
     ensures { OnOk result (string_bytes out.new
         ≡ put_behind (string_bytes out.old) (spelling (token.Quoted text.now))) }
 {
-    put_space(out)?;
-    out.push_str("'")?;
+    put_word(out, "'")?;
     put_escaped(out, text)?;
     out.push_str("'")?;
     Ok(())

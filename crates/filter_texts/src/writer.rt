@@ -3,7 +3,7 @@ ghost use Rattle.std.specs.Prelude.{◌≡◌, OnOk, IfOk, ℕ, List, map, strin
 ghost use Rattle.plain_filters.specs.Filters.{tree_of};
 ghost use Rattle.filter_expr.specs.Filters.{FilterOf};
 ghost use Rattle.filter_expr.specs.inner.Parts.{read_sum, read_product};
-ghost use Rattle.filter_texts.specs.Written.{filter_text};
+ghost use Rattle.filter_texts.specs.Written.{filter_text, put_behind};
 ghost use Rattle.filter_texts.specs.inner.Pieces as piece;
 ghost use Rattle.filter_texts.specs.inner.Pieces.{put_tree, put_terms};
 
@@ -45,6 +45,16 @@ fn put(out: &mut String, e: &Expr, least: u32) -> Result<(), NoMemory>
     put_word(out, ")")
 }
 
+// A word, and the filter behind it.
+#[cycle(writer)]
+fn put_with(out: &mut String, word: &str, part: &Expr, least: u32) -> Result<(), NoMemory>
+    ensures { OnOk result (string_bytes out.new
+        ≡ put_tree least (tree_of part.now) (put_behind (string_bytes out.old) word.now)) }
+{
+    put_word(out, word)?;
+    put(out, part, least)
+}
+
 // The filter behind what was written, without parentheses of its own.
 #[cycle(writer)]
 #[tactic(auto, using(crate::proofs::Pieces::forms))]
@@ -55,14 +65,10 @@ fn put_form(out: &mut String, e: &Expr) -> Result<(), NoMemory>
     match e {
         Expr::Or(parts) => put_list(out, parts, "or", 1),
         Expr::And(parts) => put_list(out, parts, "and", 2),
-        Expr::Not(part) => {
-            put_word(out, "not")?;
-            put(out, part, 2)
-        }
+        Expr::Not(part) => put_with(out, "not", part, 2),
         Expr::Compare(a, sign, b) => {
             put(out, a, 4)?;
-            put_word(out, compare_word(*sign))?;
-            put(out, b, 4)
+            put_with(out, compare_word(*sign), b, 4)
         }
         Expr::Sum(first, parts) => {
             put(out, first, 5)?;
@@ -72,10 +78,7 @@ fn put_form(out: &mut String, e: &Expr) -> Result<(), NoMemory>
             put(out, first, 6)?;
             put_products(out, parts)
         }
-        Expr::Negate(part) => {
-            put_word(out, "-")?;
-            put(out, part, 6)
-        }
+        Expr::Negate(part) => put_with(out, "-", part, 6),
         Expr::Name(name) => put_name(out, name.as_str()),
         Expr::Text(text) => put_quoted(out, text.as_str()),
         Expr::Number(n) => put_number(out, *n),
@@ -95,8 +98,7 @@ fn put_list(out: &mut String, parts: &[Expr], word: &str, least: u32) -> Result<
     };
     put(out, first, least)?;
     for i in 1..parts.len() {
-        put_word(out, word)?;
-        put(out, &parts[i], least)?;
+        put_with(out, word, &parts[i], least)?;
     }
     Ok(())
 }
@@ -108,8 +110,7 @@ fn put_sums(out: &mut String, parts: &[SumPart]) -> Result<(), NoMemory>
         ≡ put_terms 5 (map read_sum parts.now) (string_bytes out.old)) }
 {
     for later in parts {
-        put_word(out, sum_word(later.sign))?;
-        put(out, &later.part, 5)?;
+        put_with(out, sum_word(later.sign), &later.part, 5)?;
     }
     Ok(())
 }
@@ -121,8 +122,7 @@ fn put_products(out: &mut String, parts: &[ProductPart]) -> Result<(), NoMemory>
         ≡ put_terms 6 (map read_product parts.now) (string_bytes out.old)) }
 {
     for later in parts {
-        put_word(out, product_word(later.sign))?;
-        put(out, &later.part, 6)?;
+        put_with(out, product_word(later.sign), &later.part, 6)?;
     }
     Ok(())
 }

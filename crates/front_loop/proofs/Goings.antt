@@ -5,14 +5,14 @@ use Rattle.std.proofs.lemmas.List.{append-nil}
 use Rattle.std.proofs.lemmas.Option.{same_Some}
 use Rattle.farm_history.specs.Lists.{Each}
 use Rattle.farm_history.specs.Entries.{Entry, Stop}
-use Rattle.port_events.specs.declared.events.PortEvent.{PortEvent}
-use Rattle.port_events.specs.declared.events.PortEvent.TheVariants as event
-use Rattle.port_events.specs.declared.ends.FrontEnd.{FrontEnd}
-use Rattle.port_events.specs.declared.ends.FrontEnd.TheVariants as ended
-use Rattle.port_events.specs.declared.ends.FrontDone.{FrontDone}
-use Rattle.port_events.specs.declared.ends.Rest.{Rest}
-use Rattle.port_events.specs.Told.{PortsTold, heard}
-use Rattle.port_events.specs.Boxes.{rest_at, rest_of, as_rest}
+use Rattle.reactor_ports.specs.declared.events.PortEvent.{PortEvent}
+use Rattle.reactor_ports.specs.declared.events.PortEvent.TheVariants as event
+use Rattle.reactor_ports.specs.declared.ends.FrontEnd.{FrontEnd}
+use Rattle.reactor_ports.specs.declared.ends.FrontEnd.TheVariants as ended
+use Rattle.reactor_ports.specs.declared.ends.FrontDone.{FrontDone}
+use Rattle.reactor_ports.specs.declared.ends.Rest.{Rest}
+use Rattle.reactor_ports.specs.Told.{PortsTold, heard}
+use Rattle.reactor_ports.specs.Boxes.{rest_at, rest_of, as_rest}
 use Rattle.front_loop.specs.declared.sessions.Session.{Session}
 use Rattle.front_loop.specs.Rules.{Rules, Move}
 use Rattle.front_loop.specs.Rounds.{FrontRound, has, there}

@@ -3,9 +3,9 @@ use Rattle.std.proofs.Common.{◌≡◌, ◌==◌, ◌<◌, ◌≤◌, ◌+◌, 
 use Rattle.std.specs.List.{list_any}
 use Rattle.std.proofs.lemmas.Bool.{lt-ltb, le-ltb}
 use Rattle.farm_base.specs.Limits.{most_rest_bytes}
-use Rattle.port_events.specs.declared.events.PortEvent.TheVariants as event
-use Rattle.port_events.specs.Told.{PortsTold, IsOpen}
-use Rattle.port_events.specs.Boxes.{put_rest, HasRest, rest_in, rest_of}
+use Rattle.reactor_ports.specs.declared.events.PortEvent.TheVariants as event
+use Rattle.reactor_ports.specs.Told.{PortsTold, IsOpen}
+use Rattle.reactor_ports.specs.Boxes.{put_rest, HasRest, rest_in, rest_of}
 use Rattle.farm_history.specs.Entries.{Entry}
 use Rattle.front_loop.specs.declared.dispositions.Disposition.{Disposition}
 use Rattle.front_loop.specs.declared.dispositions.Disposition.TheVariants.{Stays, Leaves}

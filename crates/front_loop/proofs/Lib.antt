@@ -11,3 +11,4 @@ pub mod Gots
 pub mod Tries
 pub mod Telling
 pub mod Goings
+pub mod Leaves

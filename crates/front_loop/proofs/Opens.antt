@@ -4,10 +4,10 @@ use Rattle.std.proofs.Math.Bool.{and-false}
 use Rattle.std.proofs.lemmas.Bool.{eqb-true, le-ltb}
 use Rattle.farm_base.specs.Limits.{most_rest_bytes, most_sessions}
 use Rattle.farm_history.specs.Entries.{Entry}
-use Rattle.port_events.specs.declared.events.PortEvent.{PortEvent}
-use Rattle.port_events.specs.declared.events.PortEvent.TheVariants as event
-use Rattle.port_events.specs.Told.{PortsTold, IsOpen, MayCome, Hears as HearsEvent, heard, after_close}
-use Rattle.port_events.specs.Boxes.{rest_at, rest_of}
+use Rattle.reactor_ports.specs.declared.events.PortEvent.{PortEvent}
+use Rattle.reactor_ports.specs.declared.events.PortEvent.TheVariants as event
+use Rattle.reactor_ports.specs.Told.{PortsTold, IsOpen, MayCome, Hears as HearsEvent, heard, after_close}
+use Rattle.reactor_ports.specs.Boxes.{rest_at, rest_of}
 use Rattle.front_loop.specs.declared.dispositions.Disposition.TheVariants.{Stays}
 use Rattle.front_loop.specs.declared.dispositions.Reason.{Reason}
 use Rattle.front_loop.specs.declared.dispositions.Reason.TheVariants as reason

@@ -1,7 +1,7 @@
 -- The rests of an outbox: one that changes, comes or goes, and the others.
 use Rattle.std.proofs.Common.{◌≡◌, ◌==◌, ℕ, Bool, true, false, cond, List, [], ◌∷◌, ◌++◌, Option, Some, None, refl, sym, ap, ◌∙◌}
 use Rattle.std.proofs.lemmas.Bool.{eqb-true}
-use Rattle.port_events.specs.Boxes.{rest_at, put_rest, without, HasRest}
+use Rattle.reactor_ports.specs.Boxes.{rest_at, put_rest, without, HasRest}
 use Rattle.front_loop.specs.Rounds.{has}
 use Rattle.front_loop.specs.inner.Sessions.{keys}
 use Rattle.front_loop.proofs.Tables.{other, same, remove}

@@ -7,10 +7,10 @@ use Rattle.std.proofs.Math.Bool.{and-false}
 use Rattle.std.proofs.lemmas.Bool.{eqb-true}
 use Rattle.std.proofs.lemmas.List.{append-nil, take-append-le, length-drop}
 use Rattle.std.proofs.Math.Seq.{take-add}
-use Rattle.port_events.specs.declared.events.PortEvent.{PortEvent}
-use Rattle.port_events.specs.declared.events.PortEvent.TheVariants as event
-use Rattle.port_events.specs.declared.events.SendFault.TheVariants as send_fault
-use Rattle.port_events.specs.Told.{PortsTold, MayCome, heard, after_send, after_close}
+use Rattle.reactor_ports.specs.declared.events.PortEvent.{PortEvent}
+use Rattle.reactor_ports.specs.declared.events.PortEvent.TheVariants as event
+use Rattle.reactor_ports.specs.declared.events.SendFault.TheVariants as send_fault
+use Rattle.reactor_ports.specs.Told.{PortsTold, MayCome, heard, after_send, after_close}
 use Rattle.front_loop.specs.declared.dispositions.Reason.TheVariants as reason
 use Rattle.front_loop.specs.Rules.{EachSoFar, Rules, Move, answer_bytes}
 use Rattle.front_loop.specs.Rounds.{Send, Departure, FrontRound, in_turn, has, gone, connections_after, there}

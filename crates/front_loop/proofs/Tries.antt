@@ -7,10 +7,10 @@ use Rattle.std.proofs.lemmas.Bool.{le-leb, lt-leb, and_from}
 use Rattle.std.proofs.lemmas.List.{drop-drop, length-drop, take_more_set, nil_from_length}
 use Rattle.std.proofs.Math.Bool.{or-false}
 use Rattle.farm_history.specs.Lists.{Each}
-use Rattle.port_events.specs.declared.events.PortEvent.{PortEvent}
-use Rattle.port_events.specs.declared.events.SendFault.TheVariants as send_fault
-use Rattle.port_events.specs.Told.{PortsTold, IsOpen, after_send}
-use Rattle.port_events.specs.Boxes.{rest_at, rest_of, put_rest, HasRest, rest_in, Offered}
+use Rattle.reactor_ports.specs.declared.events.PortEvent.{PortEvent}
+use Rattle.reactor_ports.specs.declared.events.SendFault.TheVariants as send_fault
+use Rattle.reactor_ports.specs.Told.{PortsTold, IsOpen, after_send}
+use Rattle.reactor_ports.specs.Boxes.{rest_at, rest_of, put_rest, HasRest, rest_in, Offered}
 use Rattle.front_loop.specs.declared.dispositions.Disposition.{Disposition}
 use Rattle.front_loop.specs.declared.dispositions.Disposition.TheVariants.{Stays, Leaves}
 use Rattle.front_loop.specs.declared.dispositions.Reason.{Reason}

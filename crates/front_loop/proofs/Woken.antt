@@ -4,7 +4,7 @@ use Rattle.std.specs.declared.vec.Vec.{Vec}
 use Rattle.std.specs.Vec.{with_items}
 use Rattle.std.proofs.lemmas.List.{with_items_is}
 use Rattle.farm_history.specs.Entries.{Entry}
-use Rattle.port_events.specs.Told.{PortsTold}
+use Rattle.reactor_ports.specs.Told.{PortsTold}
 use Rattle.front_loop.specs.declared.sessions.Session.{Session}
 use Rattle.front_loop.specs.declared.sessions.SessionTable.{SessionTable}
 use Rattle.front_loop.specs.inner.Sessions.{woken}

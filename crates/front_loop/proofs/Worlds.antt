@@ -5,10 +5,10 @@ use Rattle.farm_base.specs.declared.turns.Worn.{Worn}
 use Rattle.std.proofs.lemmas.Bool.{eqb-true}
 use Rattle.farm_history.specs.Lists.{Each}
 use Rattle.farm_history.specs.Entries.{Entry}
-use Rattle.port_events.specs.declared.events.PortEvent.{PortEvent}
-use Rattle.port_events.specs.declared.events.PortEvent.TheVariants as event
-use Rattle.port_events.specs.Told.{PortsTold, MayCome, IsOpen, heard}
-use Rattle.port_events.specs.Boxes.{rest_at, HasRest, rest_in}
+use Rattle.reactor_ports.specs.declared.events.PortEvent.{PortEvent}
+use Rattle.reactor_ports.specs.declared.events.PortEvent.TheVariants as event
+use Rattle.reactor_ports.specs.Told.{PortsTold, MayCome, IsOpen, heard}
+use Rattle.reactor_ports.specs.Boxes.{rest_at, HasRest, rest_in}
 use Rattle.front_loop.specs.declared.dispositions.Disposition.{Disposition}
 use Rattle.front_loop.specs.declared.sessions.Session.{Session}
 use Rattle.front_loop.specs.declared.sessions.SessionTable.{SessionTable}

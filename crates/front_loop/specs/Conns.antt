@@ -5,10 +5,10 @@ use Rattle.std.specs.List.{list_any}
 use Rattle.farm_base.specs.Limits.{most_rest_bytes}
 use Rattle.farm_history.specs.declared.queues.Reply.{Reply}
 use Rattle.farm_history.specs.Entries.{Entry}
-use Rattle.port_events.specs.declared.events.PortEvent.{PortEvent}
-use Rattle.port_events.specs.declared.events.PortEvent.TheVariants as event
-use Rattle.port_events.specs.declared.events.SendFault.TheVariants as send_fault
-use Rattle.port_events.specs.Told.{PortsTold, heard, after_send, after_close}
+use Rattle.reactor_ports.specs.declared.events.PortEvent.{PortEvent}
+use Rattle.reactor_ports.specs.declared.events.PortEvent.TheVariants as event
+use Rattle.reactor_ports.specs.declared.events.SendFault.TheVariants as send_fault
+use Rattle.reactor_ports.specs.Told.{PortsTold, heard, after_send, after_close}
 use Rattle.front_loop.specs.declared.dispositions.Reason.{Reason}
 use Rattle.front_loop.specs.declared.dispositions.Reason.TheVariants as reason
 use Rattle.front_loop.specs.Rules.{EachSoFar, Rules, Move, Does, Gets, is_cut, wants_of, answer_bytes}

@@ -7,3 +7,6 @@ pub mod Serving
 pub mod Calls
 pub mod Front
 pub mod inner
+pub mod FarmAdapters
+pub mod Leaves
+pub mod Kinds

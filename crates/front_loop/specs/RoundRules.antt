@@ -1,7 +1,7 @@
 -- Which round a front may make after those before it.
 use Rattle.std.specs.Prelude.{◌≡◌, ◌≢◌, ℕ, ◌<◌, ◌≤◌, true, false, ◌⊎◌, List, [], ◌∷◌, ◌++◌, length, Some, None, IfSome}
 use Rattle.farm_base.specs.Limits.{most_sessions}
-use Rattle.port_events.specs.declared.events.PortEvent.TheVariants as event
+use Rattle.reactor_ports.specs.declared.events.PortEvent.TheVariants as event
 use Rattle.front_loop.specs.declared.dispositions.Reason.{Reason}
 use Rattle.front_loop.specs.declared.dispositions.Reason.TheVariants as reason
 use Rattle.front_loop.specs.Rules.{EachSoFar, Rules, wants_of}

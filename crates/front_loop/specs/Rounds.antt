@@ -2,8 +2,8 @@
 -- first, and so the newest of each list in it.
 use Rattle.std.specs.Prelude.{ℕ, ◌+◌, ◌==◌, Bool, true, false, cond, List, [], ◌∷◌, ◌++◌, length, Option, Some, None, nat_lt}
 use Rattle.farm_base.specs.Limits.{most_sessions}
-use Rattle.port_events.specs.declared.events.PortEvent.{PortEvent}
-use Rattle.port_events.specs.declared.events.PortEvent.TheVariants as event
+use Rattle.reactor_ports.specs.declared.events.PortEvent.{PortEvent}
+use Rattle.reactor_ports.specs.declared.events.PortEvent.TheVariants as event
 use Rattle.farm_history.specs.declared.queues.Reply.{Reply}
 use Rattle.farm_history.specs.declared.answers.Collected.TheVariants as collected
 use Rattle.farm_history.specs.Entries.{Entry, Collect, Leave}

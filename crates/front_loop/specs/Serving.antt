@@ -1,11 +1,11 @@
 -- What a front leaves: its own entries, what its ports tell, and what it hands back.
 use Rattle.std.specs.Prelude.{◌≡◌, ◌≢◌, ℕ, ◌-◌, ◌^◌, Bool, true, false, ◌&&◌, ◌⊎◌, cond, List, [], ◌∷◌, ◌++◌, map, min, take, drop, Option, Some, option_map, IfSome}
 use Rattle.std.specs.List.{list_all}
-use Rattle.port_events.specs.declared.events.PortEvent.TheVariants as event
-use Rattle.port_events.specs.declared.ends.FrontEnd.{FrontEnd}
-use Rattle.port_events.specs.declared.ends.FrontEnd.TheVariants as ended
-use Rattle.port_events.specs.declared.ends.Rest.{Rest}
-use Rattle.port_events.specs.Told.{PortsTold, heard}
+use Rattle.reactor_ports.specs.declared.events.PortEvent.TheVariants as event
+use Rattle.reactor_ports.specs.declared.ends.FrontEnd.{FrontEnd}
+use Rattle.reactor_ports.specs.declared.ends.FrontEnd.TheVariants as ended
+use Rattle.reactor_ports.specs.declared.ends.Rest.{Rest}
+use Rattle.reactor_ports.specs.Told.{PortsTold, heard}
 use Rattle.farm_history.specs.Entries.{Entry, Stop}
 use Rattle.farm_history.specs.Lists.{Each}
 use Rattle.front_loop.specs.Rules.{EachSoFar, Rules, answer_bytes}

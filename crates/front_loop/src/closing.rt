@@ -8,7 +8,7 @@ ghost use Rattle.front_loop.specs.inner.Sessions.{is_up, IsLeaving, StaysOn};
 ghost use Rattle.front_loop.specs.declared.dispositions.Disposition.TheVariants as disposition;
 ghost use Rattle.front_loop.specs.inner.Stages.{Shuts};
 ghost use Rattle.front_loop.specs.inner.Moments.{at, MayLeave, LeavesOne, LeavesAll};
-ghost use Rattle.port_events.specs.Told.{IsOpen};
+ghost use Rattle.reactor_ports.specs.Told.{IsOpen};
 
 use crate::context::Context;
 use crate::dispositions::{Disposition, Reason};
@@ -16,9 +16,9 @@ use crate::farm::Farm;
 use crate::front::Front;
 use crate::sessions::{Session, SessionTable};
 use farm_base::Worn;
-use farm_events::Leave;
 use farm_history::Conn;
-use port_events::Ports;
+use farm_shared::Leave;
+use reactor_ports::Ports;
 use std::sync::Wait;
 
 // A session that leaves: its place, its connection, and why.

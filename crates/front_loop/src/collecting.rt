@@ -5,8 +5,8 @@ ghost use Rattle.front_loop.specs.Calls.{SameSeat};
 ghost use Rattle.front_loop.specs.Front.{rules_in};
 ghost use Rattle.front_loop.specs.inner.Sessions.{worse};
 ghost use Rattle.front_loop.specs.inner.Moments.{at, MayCollect, Collects, CollectsAll, RepliesOn};
-ghost use Rattle.port_events.specs.Boxes.{HasRest};
-ghost use Rattle.port_events.specs.Told.{PortsTold};
+ghost use Rattle.reactor_ports.specs.Boxes.{HasRest};
+ghost use Rattle.reactor_ports.specs.Told.{PortsTold};
 
 use crate::context::Context;
 use crate::dispositions::{Disposition, Reason};
@@ -15,8 +15,8 @@ use crate::front::Front;
 use crate::hearing::{is_kept, owes_after, settle, wake_all};
 use crate::sessions::{Answers, Session, SessionTable, place_of};
 use farm_base::Worn;
-use farm_events::Collect;
 use farm_history::{Collected, Outcome, Reply};
+use farm_shared::Collect;
 use std::sync::Wait;
 
 fn worse_of(old: Disposition, new: Disposition) -> Disposition

@@ -1,10 +1,10 @@
 //! The farm as a front uses it.
 ghost use Rattle.std.specs.Prelude.{◌≡◌, ℕ, List, Option};
-ghost use Rattle.farm_events.specs.Needs.{NeedAlone};
+ghost use Rattle.farm_shared.specs.Needs.{NeedAlone};
 ghost use Rattle.front_loop.specs.Calls.{Seats, Turns};
 
 use farm_base::Worn;
-use farm_events::Event;
+use farm_shared::Event;
 use std::sync::Wait;
 
 /// A farm that is shared, as far as a front calls it.

@@ -7,9 +7,9 @@ ghost use Rattle.front_loop.specs.Front.{keeps, rules_in};
 ghost use Rattle.front_loop.specs.inner.Sessions.{owing, woken, keys, conns, newcomer};
 ghost use Rattle.front_loop.specs.inner.Stages.{Settles, Admits, Opens, MarksAt, marked};
 ghost use Rattle.front_loop.specs.inner.Moments.{at, MayStart, Starts, MayHear, HearsPiece, HearsOn};
-ghost use Rattle.port_events.specs.Boxes.{HasRest, rest_at};
-ghost use Rattle.port_events.specs.Told.{PortsTold, IsOpen, after_close};
-ghost use Rattle.port_events.specs.declared.events.PortEvent.TheVariants as event;
+ghost use Rattle.reactor_ports.specs.Boxes.{HasRest, rest_at};
+ghost use Rattle.reactor_ports.specs.Told.{PortsTold, IsOpen, after_close};
+ghost use Rattle.reactor_ports.specs.declared.events.PortEvent.TheVariants as event;
 
 use crate::context::{Context, Piece};
 use crate::dispositions::{Disposition, Reason};
@@ -17,7 +17,7 @@ use crate::farm::Farm;
 use crate::front::Front;
 use crate::sessions::{Answers, Session, SessionTable, place_of};
 use farm_base::{MOST_SESSIONS, NoMemory, Worn};
-use port_events::{BoxFault, Outbox, PortEvent, Ports};
+use reactor_ports::{BoxFault, Outbox, PortEvent, Ports};
 use std::alloc::Global;
 use std::sync::Wait;
 

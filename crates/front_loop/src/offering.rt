@@ -4,8 +4,8 @@ ghost use Rattle.front_loop.specs.Front.{rules_in};
 ghost use Rattle.front_loop.specs.inner.Sessions.{is_up};
 ghost use Rattle.front_loop.specs.inner.Stages.{Gives, OffersOne, disposition_after};
 ghost use Rattle.front_loop.specs.inner.Moments.{at, MayOffer, OffersAll};
-ghost use Rattle.port_events.specs.Boxes.{HasRest, rest_in};
-ghost use Rattle.port_events.specs.Told.{IsOpen};
+ghost use Rattle.reactor_ports.specs.Boxes.{HasRest, rest_in};
+ghost use Rattle.reactor_ports.specs.Told.{IsOpen};
 
 use crate::context::Context;
 use crate::dispositions::{Disposition, Reason};
@@ -13,7 +13,7 @@ use crate::farm::Farm;
 use crate::front::Front;
 use crate::hearing::is_kept;
 use crate::sessions::{Session, SessionTable};
-use port_events::{Outbox, Ports, SendFault};
+use reactor_ports::{Outbox, Ports, SendFault};
 
 /// What an offer of a connection's rest did.
 #[derive(Clone, Copy)]

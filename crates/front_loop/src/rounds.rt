@@ -3,9 +3,9 @@ ghost use Rattle.std.specs.Prelude.{◌≡◌, ◌≢◌, ◌≤◌, ◌+◌, []
 ghost use Rattle.front_loop.specs.Calls.{SameSeat};
 ghost use Rattle.front_loop.specs.Front.{IsServed, rules_in};
 ghost use Rattle.farm_base.specs.Outside.{Counted};
-ghost use Rattle.port_events.specs.Boxes.{as_rest};
-ghost use Rattle.port_events.specs.declared.events.PortEvent.TheVariants as event;
-ghost use Rattle.port_events.specs.declared.ends.FrontEnd.TheVariants as ended;
+ghost use Rattle.reactor_ports.specs.Boxes.{as_rest};
+ghost use Rattle.reactor_ports.specs.declared.events.PortEvent.TheVariants as event;
+ghost use Rattle.reactor_ports.specs.declared.ends.FrontEnd.TheVariants as ended;
 ghost use Rattle.front_loop.specs.inner.Stages.{StopsAfter, end_of};
 ghost use Rattle.front_loop.specs.inner.Moments.{at, MayStart, Plays, MayGo, GoesOnce, GoesOn};
 
@@ -18,8 +18,8 @@ use crate::hearing::{Came, take_event};
 use crate::offering::offer_all;
 use crate::sessions::SessionTable;
 use farm_base::Worn;
-use farm_events::Stop;
-use port_events::{FrontDone, FrontEnd, PortEvent, Ports};
+use farm_shared::Stop;
+use reactor_ports::{FrontDone, FrontEnd, PortEvent, Ports};
 use std::sync::Wait;
 
 fn end_after(event: PortEvent, stopped: bool) -> Option<FrontEnd>

@@ -4,7 +4,7 @@ ghost use Rattle.front_loop.specs.Rounds.{has};
 ghost use Rattle.front_loop.specs.inner.Sessions.{conns, HasConn};
 
 use crate::dispositions::{Disposition, Reason};
-use port_events::Outbox;
+use reactor_ports::Outbox;
 use std::alloc::Global;
 
 /// A connection that is there.

@@ -1,7 +1,7 @@
 -- The test of an ellipse without signs, and its box.
 use Rattle.std.proofs.Common.{◌≡◌, ℕ, ◌+◌, ◌-◌, ◌*◌, ◌/◌, ◌<◌, ◌≤◌, Bool, true, false, ◌&&◌, refl, ap, sym, ◌∙◌, inl, inr, arith}
 use Rattle.std.specs.Prelude.{nat_le}
-use Rattle.std.proofs.Math.Nat.{mul-le-mul_right}
+use Rattle.std.proofs.Math.Nat.{mul-le-mul_right, mul-div_cancel_left}
 use Rattle.std.proofs.lemmas.Bool.{cases_lt, le-leb, lt-leb, leb-true, leb-false, and_parts}
 use Rattle.plain_world.specs.declared.world.Point.{Point}
 use Rattle.plain_shapes.specs.Strokes.{in_mark}
@@ -30,6 +30,10 @@ reaches_parts a b y h =
     let parts = and_parts (nat_le 1 a && nat_le 1 b) (nat_le y b) h in
     let sides = and_parts (nat_le 1 a) (nat_le 1 b) parts.0 in
     (leb-true 1 a sides.0, leb-true 1 b sides.1, leb-true y b parts.1)
+
+-- a circle's squares cancel
+pub circle_is : (a b n : ℕ) → a ≡ b → 1 ≤ b → a * a * n / (b * b) ≡ n
+circle_is a b n same some = ap (λ k. k * k * n / (b * b)) same ∙ mul-div_cancel_left n (square_below 1 b some)
 
 -- how far an ellipse reaches to each side at a height, solved for it
 pub width_is : (a b y r n : ℕ) → 1 ≤ b → y ≤ b → n ≡ a * a * (b * b - y * y) / (b * b) → ((d : ℕ) → nat_le d r ≡ nat_le (d * d) n)

@@ -1,5 +1,5 @@
 //! The ellipse of a mark.
-ghost use Rattle.std.specs.Prelude.{◌≡◌, ℕ, ◌+◌, ◌-◌, ◌*◌, ◌≤◌, ◌^◌, ◌&&◌, nat_le};
+ghost use Rattle.std.specs.Prelude.{◌≡◌, ℕ, ◌+◌, ◌-◌, ◌*◌, ◌/◌, ◌≤◌, ◌^◌, ◌&&◌, nat_le};
 
 use centre_spans::{Shape, Stretch, apart, around, nowhere, root};
 use plain_world::Point;
@@ -26,6 +26,21 @@ fn reaches(a: u32, b: u32, y: u64) -> bool
     a >= 1 && b >= 1 && y <= u64::from(b)
 }
 
+// `a^2` times the number over `b^2`, rounded down. Most marks are circles, of which nothing is divided.
+#[tactic(auto, using(crate::proofs::Marks::circle_is))]
+fn scaled(a: u32, b: u32, n: u128) -> u128
+    requires a { a ≤ 2 ^ 31 }
+    requires b { b ≤ 2 ^ 31 }
+    requires some { 1 ≤ b }
+    requires small { n ≤ 2 ^ 62 }
+    ensures { result ≡ a * a * n / (b * b) }
+{
+    if a == b {
+        return n;
+    }
+    squared(u64::from(a)) * n / squared(u64::from(b))
+}
+
 // How far to each side of its centre an ellipse reaches that is `a` wide and `b` high to each side, at the
 // height `y` from its centre: x^2 * b^2 + y^2 * a^2 <= a^2 * b^2, solved for x.
 fn width_at(a: u32, b: u32, y: u64) -> u64
@@ -38,7 +53,7 @@ fn width_at(a: u32, b: u32, y: u64) -> u64
     ensures little { result ≤ a }
 {
     let high = squared(u64::from(b));
-    root(squared(u64::from(a)) * (high - squared(y)) / high)
+    root(scaled(a, b, high - squared(y)))
 }
 
 // The places at most `reach` from `p`.

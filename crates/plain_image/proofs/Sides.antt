@@ -4,6 +4,7 @@ use Rattle.std.specs.Prelude.{if◌then◌else◌, nat_lt}
 use Rattle.std.specs.List.{list_all}
 use Rattle.std.proofs.lemmas.Bool.{cases_Bool, and_parts, and_from, le-ltb, ltb-true, ltb-false}
 use Rattle.farm_base.specs.Digits.{is_digit, number_after}
+use Rattle.farm_base.proofs.NumberTexts.{number_grows}
 use Rattle.plain_shapes.specs.Images.{Pixels}
 use Rattle.plain_image.specs.declared.reading.PpmFault.{PpmFault}
 use Rattle.plain_image.specs.declared.reading.PpmFault.TheVariants.{Bad, TooLarge, NoMemory}
@@ -37,11 +38,6 @@ pub record Overflows (v : ℕ) (text : List ℕ) : Type 0 where
   pub split : text ≡ digits ++ rest
   pub each : list_all is_digit digits ≡ true
   pub many : 4096 < number_after v digits
-
--- digits make a number no smaller
-pub number_grows : (v : ℕ) (ds : List ℕ) → v ≤ number_after v ds
-number_grows v [] = omega arith
-number_grows v (d ∷ ds) = let h = number_grows (10 * v + (d - 48)) ds in omega (arith, h)
 
 pub counted_map : (v : ℕ) (P Q : ℕ → List ℕ → Type 0) (text : List ℕ) → ((w : ℕ) (r : List ℕ) → v ≤ w → w ≤ 4096 → P w r → Q w r) → Counted v P text → Counted v Q text
 counted_map v P Q text f c = record {

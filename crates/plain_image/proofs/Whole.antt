@@ -16,7 +16,8 @@ use Rattle.plain_image.specs.Laws.{SaysImages, SaysBad, SaysTooLarge, SaysNothin
 use Rattle.plain_image.proofs.PpmParts.{Reader, Knows}
 use Rattle.plain_image.proofs.PpmBytes.{one, One, one_refuses, knows_one}
 use Rattle.plain_image.proofs.Gaps.{gap_then, Begins, Gapped, gap_stops, knows_gap, gap_ends, ends_gap}
-use Rattle.plain_image.proofs.Sides.{digits_then, NoDigit, Counted, Overflows, KnowsAll, number_grows, knows_digits}
+use Rattle.farm_base.proofs.NumberTexts.{number_grows}
+use Rattle.plain_image.proofs.Sides.{digits_then, NoDigit, Counted, Overflows, KnowsAll, knows_digits}
 use Rattle.plain_image.proofs.Rasters.{raster, Painted, knows_raster}
 use Rattle.plain_image.proofs.Flow.{leads, is, side_then, greatest_then, rows_then, whole, ppm_flow}
 

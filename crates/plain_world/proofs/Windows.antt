@@ -30,7 +30,7 @@ pixels_fit side size n =
 side_least : (z : ℕ) → z ≤ 18 → 2 ^ 12 ≤ side_at z
 side_least z h = let a : 0 < 2 = omega arith in let b : 12 ≤ 30 - z = omega arith in pow-le-pow_right a b
 
-side_most : (z : ℕ) → side_at z ≤ 2 ^ 30
+pub side_most : (z : ℕ) → side_at z ≤ 2 ^ 30
 side_most z = let a : 0 < 2 = omega arith in let b : 30 - z ≤ 30 = omega arith in pow-le-pow_right a b
 
 -- what holds of the six sizes of tiles holds of each

@@ -14,6 +14,9 @@ use std::mem;
 // So many corners are never too many.
 const MOST_CORNERS: usize = 1 << 18;
 
+// A polygon that is crossed in 16 rows has mostly so many crossings.
+const SOME_PLACES: usize = 32;
+
 /// Where crossings of a column begin or end: its rows from `row` on are turned round.
 #[derive(Clone, Copy)]
 pub struct Corner {
@@ -37,6 +40,17 @@ pub fn no_crossings(alloc: Global) -> Crossed
         places: Vec::new(alloc),
         corners: Vec::new(alloc),
     }
+}
+
+/// Nothing is crossed, and there is room for the crossings of a small polygon: a list that grows is moved again and again.
+pub fn crossings_with_room(alloc: Global) -> Result<Crossed, NoMemory>
+    ensures places { IfOk result (λ crossed. crossed.places.items ≡ []) }
+    ensures corners { IfOk result (λ crossed. crossed.corners.items ≡ []) }
+{
+    Ok(Crossed {
+        places: Vec::with_capacity(alloc, SOME_PLACES)?,
+        corners: Vec::new(alloc),
+    })
 }
 
 /// Rows of a column: from `top` on and before `bottom`.

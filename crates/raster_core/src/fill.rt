@@ -8,7 +8,7 @@ ghost use Rattle.plain_shapes.specs.inner.Canvas.{marked};
 ghost use Rattle.raster_core.specs.inner.Toggles.{AllInside};
 ghost use Rattle.raster_core.specs.inner.Crossings.{Crossings};
 
-use crate::columns::{listed, no_crossings};
+use crate::columns::{crossings_with_room, listed};
 use crate::edges::cross_rings;
 use crate::parities::in_order;
 use crate::runs::run_at;
@@ -26,7 +26,7 @@ pub fn crossings(alloc: Global, rings: &[Path], w: Window) -> Result<Vec<u32>, N
     requires window { IsWindow w }
     ensures { IfOk result (λ v. Crossings w (in_rings rings.now) v.items) }
 {
-    let mut crossed = no_crossings(alloc);
+    let mut crossed = crossings_with_room(alloc)?;
     cross_rings(alloc, rings, w, &mut crossed)?;
     let places = listed(w, crossed)?;
     in_order(alloc, w, places)

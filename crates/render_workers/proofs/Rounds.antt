@@ -10,7 +10,7 @@ use Rattle.std.specs.List.{flat_map}
 use Rattle.std.proofs.lemmas.List.{map-append, flat_map_more}
 use Rattle.farm_history.specs.Entries.{Entry, Claim, Finish}
 use Rattle.turn_cell.specs.SeatStates.{Made, SeatState, IsSeatOf, SameSeat, worn_out}
-use Rattle.farm_events.specs.Seats.{plain}
+use Rattle.farm_shared.specs.Seats.{plain}
 use Rattle.farm_shared.specs.Shared.{Adds}
 use Rattle.render_workers.specs.declared.worker.WorkEnd.{WorkEnd}
 use Rattle.render_workers.specs.Rounds.{Round, Drew, FoundNone, FoundMany, round_entries, LastEntries, Gains, Worked}

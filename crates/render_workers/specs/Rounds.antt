@@ -7,7 +7,7 @@ use Rattle.farm_history.specs.declared.answers.ClaimAnswer.TheVariants.{Job}
 use Rattle.farm_history.specs.declared.answers.Finished.{Finished}
 use Rattle.farm_history.specs.Entries.{Entry, Claim, Finish}
 use Rattle.turn_cell.specs.SeatStates.{SeatState}
-use Rattle.farm_events.specs.Seats.{plain}
+use Rattle.farm_shared.specs.Seats.{plain}
 use Rattle.render_workers.specs.declared.worker.WorkEnd.{WorkEnd}
 
 -- one round of a worker

@@ -3,8 +3,8 @@
 use Rattle.std.specs.Prelude.{ℕ, ◌^◌, nat_le, if◌then◌else◌, List, length, codes, Option, Some, None, Result, Ok, Err}
 use Rattle.std.specs.Option.{ok_or}
 use Rattle.std.specs.Str.{bytes_eq}
-use Rattle.line_reading.specs.Cuts.{cut_at}
-use Rattle.line_reading.specs.Numbers.{decimal_below}
+use Rattle.farm_base.specs.Cuts.{cut_at}
+use Rattle.farm_base.specs.Numbers.{decimal_below}
 use Rattle.reading.specs.Steps.{◌>>=◌, check}
 use Rattle.farm_history.specs.declared.asks.Cmd.{Cmd}
 use Rattle.farm_history.specs.declared.asks.Cmd.TheVariants as cmd

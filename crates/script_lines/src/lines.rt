@@ -8,8 +8,7 @@ ghost use Rattle.script_lines.specs.declared.script.ScriptFault.TheVariants.{NoM
 
 use crate::script::{ScriptFault, ScriptLine};
 use crate::words::{command, number, place, ticket, tile, word};
-use farm_base::Text;
-use line_reading::cut;
+use farm_base::{Text, cut};
 use reading::line_text;
 use std::alloc::Global;
 

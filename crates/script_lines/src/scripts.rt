@@ -6,8 +6,7 @@ ghost use Rattle.script_lines.specs.declared.script.ScriptFault.TheVariants as f
 
 use crate::lines::read_line;
 use crate::script::{Script, ScriptFault};
-use farm_base::MOST_LINES;
-use line_reading::first_line;
+use farm_base::{MOST_LINES, first_line};
 use std::alloc::Global;
 
 /// Reads a script: its lines that are not skipped, or the first line that is none. Lines end with a

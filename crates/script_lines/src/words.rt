@@ -6,8 +6,8 @@ ghost use Rattle.script_lines.specs.Lines as spec;
 ghost use Rattle.script_lines.specs.inner.Lines as inner;
 
 use crate::script::ScriptFault;
+use farm_base::{cut, small_number};
 use farm_history::Cmd;
-use line_reading::{cut, small_number};
 
 /// The first word, and the words behind the space after it.
 pub fn word(text: &str, fault: ScriptFault) -> Result<(&str, &str), ScriptFault>
@@ -25,7 +25,7 @@ pub fn number(word: &str, fault: ScriptFault) -> Result<u32, ScriptFault>
 pub fn ticket(word: &str, fault: ScriptFault) -> Result<u64, ScriptFault>
     ensures { result ≡ inner.ticket_of fault word.now }
 {
-    line_reading::number(word).ok_or(fault)
+    farm_base::number(word).ok_or(fault)
 }
 
 fn cmd(word: &str) -> Option<Cmd>

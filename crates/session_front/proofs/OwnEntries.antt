@@ -1,9 +1,9 @@
 -- The entries of the renderd front are a front's.
 use Rattle.std.proofs.Common.{ℕ, List, Option, refl}
-use Rattle.front_leaves.specs.Fronts.{IsFront}
-use Rattle.front_leaves.proofs.Laws.{is_foreign, each_of_front, alone}
-use Rattle.renderd_handler.specs.Renderd.{renderd_rules}
-use Rattle.renderd_handler.proofs.Sorts as renderd
+use Rattle.front_loop.specs.Leaves.{IsFront}
+use Rattle.front_loop.proofs.Leaves.{is_foreign, each_of_front, alone}
+use Rattle.session_front.specs.Renderd.{renderd_rules}
+use Rattle.session_front.proofs.Sorts as renderd
 
 pub is_front : (maps : List ℕ → Option ℕ) → IsFront 0 (renderd_rules 0 maps)
 is_front maps = record {

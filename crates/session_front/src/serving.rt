@@ -1,19 +1,18 @@
 //! The front's call.
 ghost use Rattle.std.specs.Prelude.{◌≡◌, ◌+◌, []};
 ghost use Rattle.farm_base.specs.Outside.{Counted};
-ghost use Rattle.port_events.specs.declared.ends.FrontEnd.TheVariants as ended;
+ghost use Rattle.reactor_ports.specs.declared.ends.FrontEnd.TheVariants as ended;
 ghost use Rattle.front_loop.specs.Serving.{FrontRun};
 ghost use Rattle.turn_cell.specs.SeatStates.{IsSeatOf, Knows, SameSeat};
 ghost use Rattle.farm_shared.specs.Seats.{plain};
 ghost use Rattle.farm_shared.specs.Shared.{maps_of};
-ghost use Rattle.renderd_handler.specs.Renderd.{renderd_rules};
+ghost use Rattle.session_front.specs.Renderd.{renderd_rules};
 
+use crate::Renderd;
 use farm_base::Bell;
 use farm_shared::{Alarms, Seat, SharedFarm};
-use front_adapter::{FarmAdapter, serve_shared};
-use front_loop::Context;
-use port_events::{FrontDone, Ports};
-use renderd_handler::Renderd;
+use front_loop::{Context, FarmAdapter, serve_shared};
+use reactor_ports::{FrontDone, Ports};
 use std::alloc::Global;
 use std::sync::Wait;
 use tile_store::TileStore;

@@ -18,8 +18,6 @@ use plain_shapes::{LineCap, Path};
 use plain_world::{Point, Window};
 use std::alloc::Global;
 
-// Two places call it; each row is found sooner where what does not change from row to row is computed before them.
-#[inline(always)]
 fn mark_body<K: Surface>(half: u32, a: Point, b: Point, w: Window, mask: &mut K)
     requires half { half ≤ 2 ^ 31 }
     requires a { InWorld a }

@@ -34,16 +34,20 @@ pub fn colour_or(object: &Value, key: &str, absent: Colour, at: At) -> Result<Co
     ensures { result
         ≡ or_value absent (spec.in_grammar text_reading.colour at) (get key.now (view object.now)) }
 {
-    object.get(key).map_or(Ok(absent), |v| a_colour(v, at))
+    match object.get(key) {
+        Some(value) => a_colour(value, at),
+        None => Ok(absent),
+    }
 }
 
 pub fn colour_at(object: &Value, key: &str, at: At) -> Result<Colour, StyleFault>
     ensures { result ≡ needed (fault.Shape at) (spec.in_grammar text_reading.colour at)
         (get key.now (view object.now)) }
 {
-    object
-        .get(key)
-        .map_or(Err(StyleFault::Shape(at)), |v| a_colour(v, at))
+    match object.get(key) {
+        Some(value) => a_colour(value, at),
+        None => Err(StyleFault::Shape(at)),
+    }
 }
 
 fn a_scale(value: &Value, at: At) -> Result<u64, StyleFault>
@@ -57,29 +61,22 @@ pub fn scale_or_zero(object: &Value, key: &str, at: At) -> Result<u64, StyleFaul
     ensures { result
         ≡ or_value 0 (spec.in_grammar text_reading.hundredths at) (get key.now (view object.now)) }
 {
-    object.get(key).map_or(Ok(0), |v| a_scale(v, at))
-}
-
-#[tactic(auto, unfolding(crate::specs::Kinds::a_bound))]
-fn a_bound(value: &Value, at: At) -> Result<Option<u64>, StyleFault>
-    ensures { result ≡ spec.a_bound text_reading at (view value.now) }
-{
-    Ok(Some(a_scale(value, at)?))
+    match object.get(key) {
+        Some(value) => a_scale(value, at),
+        None => Ok(0),
+    }
 }
 
 /// The greatest scale denominator of a rule or layer, none where it is absent.
+#[tactic(auto, unfolding(crate::specs::Kinds::a_bound))]
 pub fn bound_or_none(object: &Value, key: &str, at: At) -> Result<Option<u64>, StyleFault>
     ensures { result
         ≡ or_value None (spec.a_bound text_reading at) (get key.now (view object.now)) }
 {
-    object.get(key).map_or(Ok(None), |v| a_bound(v, at))
-}
-
-fn an_opacity(value: &Value, at: At) -> Result<u32, StyleFault>
-    ensures value { result ≡ spec.in_grammar text_reading.thousandths at (view value.now) }
-    ensures fits { IfOk result (λ n. IsTrue (is_opacity n)) }
-{
-    thousandths(text(value, StyleFault::Shape(at))?).ok_or(StyleFault::Text(at))
+    match object.get(key) {
+        Some(value) => Ok(Some(a_scale(value, at)?)),
+        None => Ok(None),
+    }
 }
 
 /// An opacity in thousandths, 1,000 where it is absent.
@@ -88,7 +85,10 @@ pub fn opacity_or_full(object: &Value, key: &str, at: At) -> Result<u32, StyleFa
         (get key.now (view object.now)) }
     ensures fits { IfOk result (λ n. IsTrue (is_opacity n)) }
 {
-    object.get(key).map_or(Ok(1000), |v| an_opacity(v, at))
+    match object.get(key) {
+        Some(value) => thousandths(text(value, StyleFault::Shape(at))?).ok_or(StyleFault::Text(at)),
+        None => Ok(1000),
+    }
 }
 
 #[tactic(auto, unfolding(crate::specs::Kinds::a_width))]
@@ -96,7 +96,7 @@ fn a_width(value: &Value, at: At) -> Result<u64, StyleFault>
     ensures value { result ≡ spec.a_width text_reading at (view value.now) }
     ensures fits { IfOk result (λ n. IsTrue (is_width n)) }
 {
-    let n = hundredths(text(value, StyleFault::Shape(at))?).ok_or(StyleFault::Text(at))?;
+    let n = a_scale(value, at)?;
     if 1 <= n && n <= 100 * MOST_WIDTH {
         Ok(n)
     } else {
@@ -111,7 +111,10 @@ pub fn width_or(object: &Value, key: &str, absent: u64, at: At) -> Result<u64, S
         ≡ or_value absent (spec.a_width text_reading at) (get key.now (view object.now)) }
     ensures fits { IfOk result (λ n. IsTrue (is_width n)) }
 {
-    object.get(key).map_or(Ok(absent), |v| a_width(v, at))
+    match object.get(key) {
+        Some(value) => a_width(value, at),
+        None => Ok(absent),
+    }
 }
 
 pub fn width_at(object: &Value, key: &str, at: At) -> Result<u64, StyleFault>
@@ -119,9 +122,10 @@ pub fn width_at(object: &Value, key: &str, at: At) -> Result<u64, StyleFault>
         ≡ needed (fault.Shape at) (spec.a_width text_reading at) (get key.now (view object.now)) }
     ensures fits { IfOk result (λ n. IsTrue (is_width n)) }
 {
-    object
-        .get(key)
-        .map_or(Err(StyleFault::Shape(at)), |v| a_width(v, at))
+    match object.get(key) {
+        Some(value) => a_width(value, at),
+        None => Err(StyleFault::Shape(at)),
+    }
 }
 
 #[tactic(auto, unfolding(crate::specs::Kinds::a_text_to))]
@@ -166,19 +170,18 @@ pub fn two_texts(alloc: Global, one: &str, other: &str) -> Result<(Text, Text), 
     Ok((one, other))
 }
 
-#[tactic(auto, unfolding(crate::specs::Kinds::any_text))]
-fn any_text(value: &Value, at: At) -> Result<(), StyleFault>
-    ensures { result ≡ spec.any_text at (view value.now) }
-{
-    let _text = text(value, StyleFault::Shape(at))?;
-    Ok(())
-}
-
 /// A text without effect, which may be absent.
+#[tactic(auto, unfolding(crate::specs::Kinds::any_text))]
 pub fn any_text_or_none(object: &Value, key: &str, at: At) -> Result<(), StyleFault>
     ensures { result ≡ or_value tt (spec.any_text at) (get key.now (view object.now)) }
 {
-    object.get(key).map_or(Ok(()), |v| any_text(v, at))
+    match object.get(key) {
+        Some(value) => {
+            let _text = text(value, StyleFault::Shape(at))?;
+            Ok(())
+        }
+        None => Ok(()),
+    }
 }
 
 fn mode_of(text: &str) -> Option<FilterMode>
@@ -191,20 +194,15 @@ fn mode_of(text: &str) -> Option<FilterMode>
     }
 }
 
-fn a_mode(value: &Value, at: At) -> Result<FilterMode, StyleFault>
-    ensures { result ≡ spec.in_grammar spec.mode_of at (view value.now) }
-{
-    mode_of(text(value, StyleFault::Shape(at))?).ok_or(StyleFault::Text(at))
-}
-
 /// A filter mode, `all` where it is absent.
 pub fn mode_or_all(object: &Value, key: &str, at: At) -> Result<FilterMode, StyleFault>
     ensures { result
         ≡ or_value mode.All (spec.in_grammar spec.mode_of at) (get key.now (view object.now)) }
 {
-    object
-        .get(key)
-        .map_or(Ok(FilterMode::All), |v| a_mode(v, at))
+    match object.get(key) {
+        Some(value) => mode_of(text(value, StyleFault::Shape(at))?).ok_or(StyleFault::Text(at)),
+        None => Ok(FilterMode::All),
+    }
 }
 
 fn cap_of(text: &str) -> Option<LineCap>
@@ -218,26 +216,28 @@ fn cap_of(text: &str) -> Option<LineCap>
     }
 }
 
-fn a_cap(value: &Value, at: At) -> Result<LineCap, StyleFault>
-    ensures { result ≡ spec.in_grammar spec.cap_of at (view value.now) }
-{
-    cap_of(text(value, StyleFault::Shape(at))?).ok_or(StyleFault::Text(at))
-}
-
 /// A line cap, `butt` where it is absent.
 pub fn cap_or_butt(object: &Value, key: &str, at: At) -> Result<LineCap, StyleFault>
     ensures { result
         ≡ or_value cap.Butt (spec.in_grammar spec.cap_of at) (get key.now (view object.now)) }
 {
-    object.get(key).map_or(Ok(LineCap::Butt), |v| a_cap(v, at))
+    match object.get(key) {
+        Some(value) => cap_of(text(value, StyleFault::Shape(at))?).ok_or(StyleFault::Text(at)),
+        None => Ok(LineCap::Butt),
+    }
 }
 
+/// A whole number of a raster, up to `2^30`.
 #[tactic(auto, unfolding(crate::specs::Kinds::a_number))]
-fn a_number(value: &Value, low: u32, at: At) -> Result<u32, StyleFault>
-    ensures value { result ≡ spec.a_number low at (view value.now) }
+pub fn number_at(object: &Value, key: &str, low: u32, at: At) -> Result<u32, StyleFault>
+    ensures value { result
+        ≡ needed (fault.Shape at) (spec.a_number low at) (get key.now (view object.now)) }
     ensures low { IfOk result (λ n. low ≤ n) }
     ensures high { IfOk result (λ n. n ≤ 2 ^ 30) }
 {
+    let Some(value) = object.get(key) else {
+        return Err(StyleFault::Shape(at));
+    };
     let n = whole_number(
         value,
         StyleFault::Shape(at),
@@ -248,32 +248,8 @@ fn a_number(value: &Value, low: u32, at: At) -> Result<u32, StyleFault>
     Ok(n as u32)
 }
 
-/// A whole number of a raster, up to `2^30`.
-pub fn number_at(object: &Value, key: &str, low: u32, at: At) -> Result<u32, StyleFault>
-    ensures value { result
-        ≡ needed (fault.Shape at) (spec.a_number low at) (get key.now (view object.now)) }
-    ensures low { IfOk result (λ n. low ≤ n) }
-    ensures high { IfOk result (λ n. n ≤ 2 ^ 30) }
-{
-    match object.get(key) {
-        Some(value) => a_number(value, low, at),
-        None => Err(StyleFault::Shape(at)),
-    }
-}
-
-#[tactic(auto, unfolding(crate::specs::Kinds::a_filter))]
-fn a_filter(alloc: Global, value: &Value, at: At) -> Result<Option<Expr>, StyleFault>
-    ensures { Gives fault.NoMemory (option_map tree_of)
-        (spec.a_filter text_reading at (view value.now)) result }
-{
-    match parse(alloc, text(value, StyleFault::Shape(at))?) {
-        Ok(expr) => Ok(Some(expr)),
-        Err(FilterFault::NoMemory) => Err(StyleFault::NoMemory),
-        Err(refused) => Err(StyleFault::Filter(at, refused)),
-    }
-}
-
 /// A filter, which may be absent.
+#[tactic(auto, unfolding(crate::specs::Kinds::a_filter))]
 pub fn filter_or_none(
     alloc: Global,
     object: &Value,
@@ -283,9 +259,13 @@ pub fn filter_or_none(
     ensures { Gives fault.NoMemory (option_map tree_of)
         (or_value None (spec.a_filter text_reading at) (get key.now (view object.now))) result }
 {
-    match object.get(key) {
-        Some(value) => a_filter(alloc, value, at),
-        None => Ok(None),
+    let Some(value) = object.get(key) else {
+        return Ok(None);
+    };
+    match parse(alloc, text(value, StyleFault::Shape(at))?) {
+        Ok(expr) => Ok(Some(expr)),
+        Err(FilterFault::NoMemory) => Err(StyleFault::NoMemory),
+        Err(refused) => Err(StyleFault::Filter(at, refused)),
     }
 }
 
@@ -295,19 +275,8 @@ fn is_true(value: &Value) -> bool
     value.as_bool().unwrap_or(false)
 }
 
-#[tactic(auto, unfolding(crate::specs::Kinds::an_else))]
-fn an_else(value: &Value, has_filter: bool, at: At) -> Result<bool, StyleFault>
-    ensures value { result ≡ spec.an_else has_filter at (view value.now) }
-    ensures one { IfOk result (λ b. IsTrue (not (b && has_filter))) }
-{
-    if is_true(value) && !has_filter {
-        Ok(true)
-    } else {
-        Err(StyleFault::Shape(at))
-    }
-}
-
 /// Whether a rule is an ElseFilter rule; it has no filter then.
+#[tactic(auto, unfolding(crate::specs::Kinds::an_else))]
 pub fn else_or_false(
     object: &Value,
     key: &str,
@@ -318,9 +287,13 @@ pub fn else_or_false(
         ≡ or_value false (spec.an_else has_filter at) (get key.now (view object.now)) }
     ensures one { IfOk result (λ b. IsTrue (not (b && has_filter))) }
 {
-    match object.get(key) {
-        Some(value) => an_else(value, has_filter, at),
-        None => Ok(false),
+    let Some(value) = object.get(key) else {
+        return Ok(false);
+    };
+    if is_true(value) && !has_filter {
+        Ok(true)
+    } else {
+        Err(StyleFault::Shape(at))
     }
 }
 

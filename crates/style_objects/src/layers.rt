@@ -49,11 +49,13 @@ impl ReadItem for NameItems<'_> {
         if !style_has(name, self.styles) {
             return Err(StyleFault::NoStyle(self.at));
         }
-        Ok(Text::of(alloc, name)?)
+        match Text::of(alloc, name) {
+            Ok(name) => Ok(name),
+            Err(_) => Err(StyleFault::NoMemory),
+        }
     }
 }
 
-#[tactic(auto, using(crate::proofs::Opening::names_known))]
 fn style_names(
     alloc: Global,
     styles: &[Style],
@@ -66,8 +68,7 @@ fn style_names(
     ensures known { IfOk result
         (λ v. IsTrue (list_all (λ name. plain.style_has name styles.now) v.items)) }
 {
-    let names = read_list(alloc, &NameItems { styles, at }, items)?;
-    Ok(names)
+    read_list(alloc, &NameItems { styles, at }, items)
 }
 
 fn layer_has(name: &str, layers: &[LayerRef]) -> bool

@@ -155,7 +155,6 @@ impl ReadItem for SymbolizerItems {
     }
 }
 
-#[tactic(auto, using(crate::proofs::Opening::paints_fit))]
 pub fn symbolizers(
     alloc: Global,
     style: u32,
@@ -169,6 +168,5 @@ pub fn symbolizers(
     ensures fits { IfOk result (λ v. IsTrue (list_all is_paint v.items)) }
     ensures count { IfOk result (λ v. length v.items ≤ most_symbolizers) }
 {
-    let symbolizers = read_list(alloc, &SymbolizerItems { style, rule }, items)?;
-    Ok(symbolizers)
+    read_list(alloc, &SymbolizerItems { style, rule }, items)
 }

@@ -1,9 +1,9 @@
 -- The entries of the tile front are a front's.
 use Rattle.std.proofs.Common.{ℕ, List, Option, refl}
-use Rattle.front_leaves.specs.Kinds.{IsOfFront}
-use Rattle.front_leaves.specs.Fronts.{IsFront}
-use Rattle.http_handler.specs.Tiles.{tile_rules}
-use Rattle.http_handler.proofs.OwnEntries as tiles
+use Rattle.front_loop.specs.Kinds.{IsOfFront}
+use Rattle.front_loop.specs.Leaves.{IsFront}
+use Rattle.tile_front.specs.Tiles.{tile_rules}
+use Rattle.tile_front.proofs.EntryKinds as tiles
 
 pub is_front : (maps : List ℕ → Option ℕ) → IsFront 1 (tile_rules 1 maps)
 is_front maps = record {

@@ -1,10 +1,11 @@
 -- Runs of a row whose centres lie in one pixel of a grid, or in none.
-use Rattle.std.proofs.Common.{◌≡◌, ℕ, ◌+◌, ◌-◌, ◌*◌, ◌/◌, ◌<◌, ◌≤◌, Bool, true, false, ◌&&◌, List, length, map, get_or, refl, ap, sym, subst, ◌∙◌, inl, inr, Some, None, arith}
+use Rattle.std.proofs.Common.{◌≡◌, ℕ, ◌+◌, ◌-◌, ◌*◌, ◌/◌, ◌<◌, ◌≤◌, Bool, true, false, ◌&&◌, List, [], ◌∷◌, ◌++◌, length, map, get_or, refl, ap, sym, subst, ◌∙◌, inl, inr, Some, None, arith}
 use Rattle.std.specs.Prelude.{min, nat_le, nat_lt, if◌then◌else◌, unwrap_or, option_map}
 use Rattle.std.specs.List.{range_with_len}
 use Rattle.std.proofs.Math.Nat.{mul-le-mul_right, min-eq_left, min-eq_right, min-le_right}
 use Rattle.std.proofs.lemmas.Bool.{cases_lt, le-ltb, lt-ltb}
-use Rattle.std.proofs.lemmas.List.{get_or_default}
+use Rattle.std.proofs.Math.Seq.{get_or-append_seam}
+use Rattle.std.proofs.lemmas.List.{get_or_default, get_or_append_left}
 use Rattle.std.proofs.lemmas.List.FromFn.{get_or-map-range_with_len, length-map-range_with_len}
 use Rattle.std.proofs.Math.Bool.{and-false}
 use Rattle.plain_world.specs.declared.world.Point.{Point}
@@ -122,6 +123,25 @@ run_here w g columns ends i end they low is =
     let long : length columns ≡ w.cols = each_column w g columns they.are in
     let inner : i < length ends = omega (arith, long, they.long, low) in
     subst (IsRun columns i) (get_or_default ends i 0 end inner ∙ sym is) (they.runs i (omega (arith, long, low)))
+
+-- what is left of a run behind its first place
+pub run_rest : (places : List ℕ) (i end : ℕ) → IsRun places i end → i + 1 < end → IsRun places (i + 1) end
+run_rest places i end run more = record {
+  after = more;
+  within = run.within;
+  same = λ k low high. run.same k (omega (arith, low)) high ∙ sym (run.same (i + 1) (omega arith) more);
+}
+
+-- one end of a run more
+pub ends_more : (places ends : List ℕ) (i end : ℕ) → length ends ≡ i → ((k : ℕ) → k < i → IsRun places k (get_or ends k 0)) → IsRun places i end
+    → (k : ℕ) → k < i + 1 → IsRun places k (get_or (ends ++ end ∷ []) k 0)
+ends_more places ends i end long runs run k low = elim (cases_lt k i) [
+  | inl before ↦ subst (IsRun places k) (sym (get_or_append_left ends (end ∷ []) 0 k (omega (arith, before, long)))) (runs k before)
+  | inr past ↦
+      (let here : k ≡ i = omega (arith, low, past) in
+      let last : get_or (ends ++ end ∷ []) k 0 ≡ end = ap (λ n. get_or (ends ++ end ∷ []) n 0) (here ∙ sym long) ∙ get_or-append_seam ends end [] 0 in
+      subst (λ n. IsRun places n (get_or (ends ++ end ∷ []) k 0)) (sym here) (subst (IsRun places i) (sym last) run))
+]
 
 -- a run of a row whose columns lie in one column of the grid
 pub run_held : (w : Window) (g : Grid) (columns : List ℕ) (opacity j from end k r : ℕ) (start now after : Pixels)

@@ -57,6 +57,20 @@ fn run_end(places: &[u32], from: u32, count: u32) -> u32
     end
 }
 
+// The end of the run that `i` lies in. Where one that began before has not ended it is that one's.
+fn next_end(places: &[u32], i: u32, end: u32, count: u32) -> u32
+    requires count { length places.now ≡ count }
+    requires i { i < count }
+    requires run { i < end → IsRun places.now i end }
+    ensures { IsRun places.now i result }
+{
+    if i < end {
+        end
+    } else {
+        run_end(places, i, count)
+    }
+}
+
 fn run_ends(alloc: Global, places: &[u32], count: u32) -> Result<Vec<u32>, NoMemory>
     requires { length places.now ≡ count }
     ensures long { IfOk result (λ v. length v.items ≡ length places.now) }
@@ -66,9 +80,7 @@ fn run_ends(alloc: Global, places: &[u32], count: u32) -> Result<Vec<u32>, NoMem
     let mut ends = Vec::with_capacity(alloc, places.len())?;
     let mut end = 0;
     for i in 0..count {
-        if end <= i {
-            end = run_end(places, i, count);
-        }
+        end = next_end(places, i, end, count);
         ends.push(end)?;
     }
     Ok(ends)

@@ -7,6 +7,7 @@
 //! feature alone, and features far from the window are passed over; that is in no contract.)
 #![tactic(auto)]
 
+mod ahead;
 mod brushes;
 mod canvas;
 mod covers;

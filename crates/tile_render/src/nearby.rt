@@ -14,7 +14,7 @@ use std::alloc::Global;
 use std::marker::Model;
 
 /// The most features that are kept of all layers of data. More take far longer to draw than to be found anew.
-const MOST_KEPT: usize = 4_096;
+const MOST_KEPT: usize = 131_072;
 
 /// The name of a layer of data, and its features that are near a rectangle, unless they are too many.
 #[derive(Drop)]

@@ -7,6 +7,7 @@ ghost use Rattle.tile_render.specs.inner.Items.{item_of, items_in};
 ghost use Rattle.tile_render.specs.inner.Nearby.{IsSource, FromData};
 ghost use Rattle.tile_render.specs.inner.Regions.{around};
 
+use crate::ahead::read_ahead;
 use crate::canvas::Canvas;
 use crate::items::{Item, Items, Source};
 use crate::nearby::NearData;
@@ -132,6 +133,26 @@ fn draw_features<'a>(
     Ok(())
 }
 
+fn draw_each<'a>(
+    alloc: Global,
+    scaled: &ScaledStyle<'a>,
+    table: &mut FilterTable<'a>,
+    features: &[&'a Feature],
+    canvas: &mut Canvas,
+) -> Result<(), NoMemory>
+    requires { table.old.filters ≡ filters_at scaled.now }
+    ensures drawn { OnOk result (canvas.new.image
+        ≡ fold (with_item canvas.old.window scaled.now.denominator scaled.now.style)
+        canvas.old.image (map feature (map (λ f. f.now) features.now))) }
+    ensures window { canvas.new.window ≡ canvas.old.window }
+{
+    for k in 0..features.len() {
+        read_ahead(features, k)?;
+        draw_item(alloc, scaled, table, Item::Feature(features[k]), canvas)?;
+    }
+    Ok(())
+}
+
 fn draw_listed<'a>(
     alloc: Global,
     scaled: &ScaledStyle<'a>,
@@ -147,10 +168,7 @@ fn draw_listed<'a>(
         return Ok(());
     }
     let mut table = scaled.filters(alloc)?;
-    for feature in features {
-        draw_item(alloc, scaled, &mut table, Item::Feature(feature), canvas)?;
-    }
-    Ok(())
+    draw_each(alloc, scaled, &mut table, features, canvas)
 }
 
 // Draws the features of a layer of data by a style, in order: those that are kept of it, where they are kept.

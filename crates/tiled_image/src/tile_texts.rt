@@ -1,5 +1,5 @@
 //! Square tiles that are kept as their PPM texts, one behind another.
-ghost use Rattle.std.specs.Prelude.{◌≡◌, ℕ, ◌+◌, ◌-◌, ◌*◌, ◌^◌, ◌≤◌, ◌<◌, ◌++◌, List, [], length, take, drop, map, flat_map, replicate, slice_get, slice_set, slice_index_or, Some, IfOk, OnOk, string_bytes};
+ghost use Rattle.std.specs.Prelude.{◌≡◌, true, false, ℕ, ◌+◌, ◌-◌, ◌*◌, ◌^◌, ◌≤◌, ◌<◌, ◌++◌, List, [], length, take, drop, map, flat_map, replicate, slice_get, slice_set, slice_index_or, Some, IfOk, OnOk, string_bytes};
 ghost use Rattle.plain_shapes.specs.declared.colour.Colour.{Colour};
 ghost use Rattle.plain_shapes.specs.Blending.{blend};
 ghost use Rattle.plain_shapes.specs.Ppm.{pixel_bytes};
@@ -17,7 +17,11 @@ use std::alloc::Global;
 use std::marker::Model;
 
 // An opaque run of so many pixels or more is copied. A shorter one takes no less time that way.
-const COPIED: usize = 8;
+const COPIED: usize = 2;
+
+// So many lines are kept ready, each of one colour: what is drawn in turn is mostly of a few colours. A line that was
+// written just before it is copied would be waited for.
+const LINES: u32 = 64;
 
 // A tile of one colour is written so many rows at a time: each size of a tile is so many or a multiple.
 const ROWS: u32 = 8;
@@ -31,7 +35,7 @@ pub(crate) struct TileTexts {
     count: u32,
     head: usize,
     bytes: Vec<u8>,
-    line: ReadyLine,
+    lines: Vec<ReadyLine>,
 }
 
 impl Model for TileTexts {
@@ -113,15 +117,86 @@ fn pixels_at(before: usize, head: usize, pixels: usize, tile: usize) -> usize
     before + tile * (head + pixels * 3) + head
 }
 
-fn paint(run: &mut [u8], count: usize, c: Colour, opacity: u32, line: &mut ReadyLine)
+// Copies bytes by so many of the first ones and as many of the last ones, which overlap.
+#[inline]
+fn copy_ends(to: &mut [u8], from: &[u8], part: usize)
+    requires len { length to.old ≡ length from.now }
+    requires few { part ≤ length from.now }
+    requires most { length from.now ≤ part + part }
+    ensures { to.new ≡ from.now }
+{
+    let rest = to.len() - part;
+    to[..part].copy_from_slice(&from[..part]);
+    to[rest..].copy_from_slice(&from[from.len() - part..]);
+}
+
+// Copies bytes. What is short is stored in two steps of a width that is known beforehand: a store for each byte, or a
+// call, takes longer, the more so where the bytes lie in no cache and all stores before have to wait.
+fn copy(to: &mut [u8], from: &[u8])
+    requires { length to.old ≡ length from.now }
+    ensures { to.new ≡ from.now }
+{
+    let count = from.len();
+    if count < 4 || count > 32 {
+        to.copy_from_slice(from);
+    } else if count <= 8 {
+        copy_ends(to, from, 4);
+    } else if count <= 16 {
+        copy_ends(to, from, 8);
+    } else {
+        copy_ends(to, from, 16);
+    }
+}
+
+fn no_lines(alloc: Global, c: Colour) -> Result<Vec<ReadyLine>, NoMemory> {
+    let mut lines = Vec::new(alloc);
+    for _line in 0..LINES {
+        lines.push(ReadyLine::new(alloc, c))?;
+    }
+    Ok(lines)
+}
+
+// At which place the line of a colour is kept. Others may have the same.
+fn line_of(c: Colour) -> usize {
+    ((u32::from(c.r) + 3 * u32::from(c.g) + 7 * u32::from(c.b)) % LINES) as usize
+}
+
+// Copies pixels of the colour, if they are ready; else nothing changes.
+fn copy_line(run: &mut [u8], count: usize, c: Colour, lines: &mut [ReadyLine]) -> bool
+    requires { length run.old ≡ count * 3 }
+    ensures copied { result ≡ true → run.new ≡ flat_map pixel_bytes (replicate count c) }
+    ensures kept { result ≡ false → run.new ≡ run.old }
+{
+    let Some(line) = lines.get_mut(line_of(c)) else {
+        return false;
+    };
+    if !line.prepare(c, count) {
+        return false;
+    }
+    copy(run, line.bytes(count));
+    true
+}
+
+// Whether the run was painted by a copy.
+fn is_copied(run: &mut [u8], count: usize, c: Colour, opacity: u32, lines: &mut [ReadyLine]) -> bool
+    requires { length run.old ≡ count * 3 }
+    ensures copied { result ≡ true
+        → run.new ≡ flat_map pixel_bytes (map (blend c opacity) (colours run.old)) }
+    ensures kept { result ≡ false → run.new ≡ run.old }
+{
+    if opacity == 1000 && count >= COPIED {
+        return copy_line(run, count, c, lines);
+    }
+    false
+}
+
+fn paint(run: &mut [u8], count: usize, c: Colour, opacity: u32, lines: &mut [ReadyLine])
     requires opacity { opacity ≤ 1000 }
     requires len { length run.old ≡ count * 3 }
     requires few { count ≤ most_side * most_side }
     ensures { run.new ≡ flat_map pixel_bytes (map (blend c opacity) (colours run.old)) }
 {
-    if opacity == 1000 && count >= COPIED && line.prepare(c, count) {
-        run.copy_from_slice(line.bytes(count));
-    } else {
+    if !is_copied(run, count, c, opacity, lines) {
         paint_run(c, opacity, 0, count, run);
     }
 }
@@ -146,13 +221,14 @@ impl TileTexts {
     {
         let text = blank_of(alloc, side, c)?;
         let bytes = copies(alloc, before, count, &text)?;
+        let lines = no_lines(alloc, c)?;
         Ok(TileTexts {
             before,
             side,
             count,
             head: text.head.len(),
             bytes,
-            line: ReadyLine::new(alloc, c),
+            lines,
         })
     }
 
@@ -219,7 +295,7 @@ impl TileTexts {
         let pixels = (self.side * self.side) as usize;
         let at = pixels_at(self.before, self.head, pixels, tile);
         let run = &mut self.bytes[at + start * 3..at + end * 3];
-        paint(run, end - start, c, opacity, &mut self.line);
+        paint(run, end - start, c, opacity, &mut self.lines);
     }
 
     /// All its bytes, with these in the place of those before the texts.

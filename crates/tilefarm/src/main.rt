@@ -9,7 +9,7 @@ mod running;
 
 use crate::running::run_program;
 use farm_base::DiskFiles;
-use socket_ports::SocketPorts;
+use reactor_ports::SocketPorts;
 use std::process::ExitCode;
 use tile_store::{FileStaging, FileStore, Folder};
 

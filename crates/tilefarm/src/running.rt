@@ -3,7 +3,7 @@
 use exit_status::{Stop, report};
 use farm_base::{Bell, Files, OutSink};
 use farm_call::program;
-use port_events::{Ports, ThreePorts};
+use reactor_ports::{Ports, ThreePorts};
 use std::alloc::{AllocError, Global};
 use std::process::ExitCode;
 use std::rt::{Clock, Env, Stderr, Stdout};

@@ -9,13 +9,13 @@ use Rattle.farm_history.specs.Entries.{Entry, Fetch}
 use Rattle.farm_history.specs.Past.{number_in}
 use Rattle.front_loop.specs.Rules.{EachSoFar, Rules, Move, Does, Gets, answer_bytes, wants_of}
 use Rattle.front_loop.specs.Moves.{by_move}
-use Rattle.tile_http.specs.Answers.{tile_answer}
-use Rattle.http_handler.specs.declared.acts.HttpAsk.{HttpAsk}
-use Rattle.http_handler.specs.declared.acts.HttpAsk.TheVariants as http_ask
-use Rattle.http_handler.specs.declared.acts.Act.{Act}
-use Rattle.http_handler.specs.declared.acts.Act.TheVariants as act
-use Rattle.http_handler.specs.ConnStates.{spot_at}
-use Rattle.http_handler.specs.Tiles.{ask_done, refusal, waiting_ask, fits_behind, fetched_behind, tile_rules}
+use Rattle.tile_front.specs.Answers.{tile_answer}
+use Rattle.tile_front.specs.declared.acts.HttpAsk.{HttpAsk}
+use Rattle.tile_front.specs.declared.acts.HttpAsk.TheVariants as http_ask
+use Rattle.tile_front.specs.declared.acts.Act.{Act}
+use Rattle.tile_front.specs.declared.acts.Act.TheVariants as act
+use Rattle.tile_front.specs.ConnStates.{spot_at}
+use Rattle.tile_front.specs.Tiles.{ask_done, refusal, waiting_ask, fits_behind, fetched_behind, tile_rules}
 use Rattle.worked_client.proofs.Lists.{In, only_last, never_none}
 
 same_map : (m n : Option ℕ) → option_eq (λ a b. a == b) m n ≡ true → m ≡ n

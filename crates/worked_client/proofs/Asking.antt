@@ -1,17 +1,17 @@
 -- What was asked on a connection stands in its bytes.
 use Rattle.std.proofs.Common.{◌≡◌, ◌⊎◌, inl, inr, ℕ, ◌==◌, ◌&&◌, cond, Bool, true, false, List, [], ◌∷◌, ◌++◌, Option, refl, sym, ap, subst, ◌∙◌}
 use Rattle.std.proofs.lemmas.Bool.{eqb-true}
-use Rattle.port_events.specs.declared.events.PortEvent.{PortEvent}
-use Rattle.port_events.specs.declared.events.PortEvent.TheVariants as event
+use Rattle.reactor_ports.specs.declared.events.PortEvent.{PortEvent}
+use Rattle.reactor_ports.specs.declared.events.PortEvent.TheVariants as event
 use Rattle.front_loop.specs.Rules.{EachSoFar, Rules, Move, Does, Gets, wants_of}
 use Rattle.front_loop.specs.Rounds.{Gathered, FrontRound, in_turn}
 use Rattle.front_loop.specs.Conns.{Standing, opens, brings, made, blank, conn, before, after}
 use Rattle.front_loop.specs.RoundRules.{RoundFits}
-use Rattle.tile_http.specs.Heads.{bytes_read}
-use Rattle.http_handler.specs.declared.acts.HttpAsk.{HttpAsk}
-use Rattle.http_handler.specs.declared.acts.Act.{Act}
-use Rattle.http_handler.specs.Tiles.{BytesAsk, Wants, tile_rules}
-use Rattle.http_handler.proofs.Wishes.{asks_stay}
+use Rattle.tile_front.specs.Heads.{bytes_read}
+use Rattle.tile_front.specs.declared.acts.HttpAsk.{HttpAsk}
+use Rattle.tile_front.specs.declared.acts.Act.{Act}
+use Rattle.tile_front.specs.Tiles.{BytesAsk, Wants, tile_rules}
+use Rattle.tile_front.proofs.Wishes.{asks_stay}
 
 module _ (front : ℕ) (maps : List ℕ → Option ℕ) (c : ℕ) where
   abbrev R : Rules Act HttpAsk

@@ -3,9 +3,9 @@ use Rattle.std.proofs.Common.{◌≡◌, ◌⊎◌, inl, inr, ℕ, Bool, List, [
 use lib.Seq.{take-nil}
 use Rattle.farm_base.specs.Outside.{Outside}
 use Rattle.tile_store.specs.Stores.{StoreTold}
-use Rattle.port_events.specs.declared.ends.FrontEnd.{FrontEnd}
-use Rattle.port_events.specs.declared.ends.Rest.{Rest}
-use Rattle.port_events.specs.Told.{PortsTold}
+use Rattle.reactor_ports.specs.declared.ends.FrontEnd.{FrontEnd}
+use Rattle.reactor_ports.specs.declared.ends.Rest.{Rest}
+use Rattle.reactor_ports.specs.Told.{PortsTold}
 use Rattle.farm_history.specs.declared.asks.Spot.{Spot}
 use Rattle.farm_history.specs.declared.answers.Fetched.{Fetched}
 use Rattle.farm_history.specs.Entries.{Entry, Fetch}
@@ -13,12 +13,12 @@ use Rattle.front_loop.specs.Rules.{Move, wants_of, answer_bytes}
 use Rattle.front_loop.specs.Rounds.{own}
 use Rattle.front_loop.specs.Conns.{conn}
 use Rattle.front_loop.specs.Serving.{FrontRun}
-use Rattle.tile_http.specs.Heads.{bytes_read}
-use Rattle.tile_http.specs.Answers.{tile_answer}
-use Rattle.http_handler.specs.declared.acts.HttpAsk.{HttpAsk}
-use Rattle.http_handler.specs.declared.acts.HttpAsk.TheVariants as http_ask
-use Rattle.http_handler.specs.declared.acts.Act.{Act}
-use Rattle.http_handler.specs.Tiles.{BytesAsk, tile_rules}
+use Rattle.tile_front.specs.Heads.{bytes_read}
+use Rattle.tile_front.specs.Answers.{tile_answer}
+use Rattle.tile_front.specs.declared.acts.HttpAsk.{HttpAsk}
+use Rattle.tile_front.specs.declared.acts.HttpAsk.TheVariants as http_ask
+use Rattle.tile_front.specs.declared.acts.Act.{Act}
+use Rattle.tile_front.specs.Tiles.{BytesAsk, tile_rules}
 use Rattle.turn_cell.specs.Turns.{by}
 use Rattle.farm_plan.specs.Plans.{maps_in}
 use Rattle.farm_refinement.specs.Seen.{FarmSeen}

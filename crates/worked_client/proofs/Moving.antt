@@ -3,11 +3,11 @@ use Rattle.std.proofs.Common.{◌≡◌, inl, inr, ℕ, ◌==◌, ◌&&◌, cond
 use Rattle.std.proofs.lemmas.Bool.{eqb-true}
 use Rattle.farm_history.specs.declared.answers.Collected.TheVariants as collected
 use Rattle.farm_history.specs.Entries.{Entry, Collect, Leave}
-use Rattle.port_events.specs.declared.ends.FrontEnd.{FrontEnd}
-use Rattle.port_events.specs.declared.ends.Rest.{Rest}
-use Rattle.port_events.specs.declared.events.PortEvent.{PortEvent}
-use Rattle.port_events.specs.declared.events.PortEvent.TheVariants as event
-use Rattle.port_events.specs.Told.{PortsTold, heard}
+use Rattle.reactor_ports.specs.declared.ends.FrontEnd.{FrontEnd}
+use Rattle.reactor_ports.specs.declared.ends.Rest.{Rest}
+use Rattle.reactor_ports.specs.declared.events.PortEvent.{PortEvent}
+use Rattle.reactor_ports.specs.declared.events.PortEvent.TheVariants as event
+use Rattle.reactor_ports.specs.Told.{PortsTold, heard}
 use Rattle.front_loop.specs.Rules.{EachSoFar, Rules, Move, Does, Gets, answer_bytes}
 use Rattle.front_loop.specs.Rounds.{Gathered, Departure, FrontRound, in_turn, asked_by, with_last, own}
 use Rattle.front_loop.specs.Moves.{by_move}

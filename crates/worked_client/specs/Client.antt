@@ -2,16 +2,16 @@
 use Rattle.std.specs.Prelude.{◌≡◌, ◌⊎◌, ℕ, true, List, [], ◌∷◌, ◌++◌, None, Some, is_some, take}
 use Rattle.farm_base.specs.Outside.{Outside}
 use Rattle.tile_store.specs.Stores.{StoreTold}
-use Rattle.port_events.specs.Told.{PortsTold}
+use Rattle.reactor_ports.specs.Told.{PortsTold}
 use Rattle.farm_history.specs.declared.asks.Spot.{Spot}
 use Rattle.farm_history.specs.declared.answers.Fetched.{Fetched}
 use Rattle.farm_history.specs.Entries.{Entry, Fetch}
 use Rattle.front_loop.specs.Conns.{conn}
-use Rattle.tile_http.specs.Heads.{bytes_read}
-use Rattle.tile_http.specs.Answers.{tile_answer}
-use Rattle.http_handler.specs.declared.acts.HttpAsk.{HttpAsk}
-use Rattle.http_handler.specs.declared.acts.HttpAsk.TheVariants as http_ask
-use Rattle.http_handler.specs.Tiles.{BytesAsk}
+use Rattle.tile_front.specs.Heads.{bytes_read}
+use Rattle.tile_front.specs.Answers.{tile_answer}
+use Rattle.tile_front.specs.declared.acts.HttpAsk.{HttpAsk}
+use Rattle.tile_front.specs.declared.acts.HttpAsk.TheVariants as http_ask
+use Rattle.tile_front.specs.Tiles.{BytesAsk}
 use Rattle.farm_plan.specs.Plans.{FarmPlan, maps_in}
 use Rattle.farm_refinement.specs.Seen.{FarmSeen}
 use Rattle.farm_laws.specs.Promise.{IsClean}

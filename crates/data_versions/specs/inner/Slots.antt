@@ -36,6 +36,11 @@ pub record IsPutWithin (put : List (ℕ × Option (Bor Feature))) (features : Li
   pub enough : length features ≤ count
   pub none : (n : ℕ) → count ≤ n → lookup (is_at (nat_cmp n)) put ≡ None
 
+-- the value of Slots: what stands in each, and the features from the start
+pub record SlotsSeen : Type 0 where
+  pub slots : List (Option Feature)
+  pub first : List Feature
+
 -- the id stands in no slot
 abbrev pub StandsNowhere : List (Option Feature) → ℕ → Type 0
 StandsNowhere slots id = (k : ℕ) → slot_id (get_or slots k None) ≡ Some id → ⊥

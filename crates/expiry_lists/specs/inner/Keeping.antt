@@ -3,8 +3,7 @@ use Rattle.std.specs.Prelude.{ℕ, ◌≡◌, true, List, filter_map, Option, So
 use Rattle.farm_history.specs.declared.keys.Key.{Key}
 use Rattle.farm_history.specs.declared.keys.Mark.{Mark}
 use Rattle.farm_history.specs.declared.keys.Kept.{Kept}
-use Rattle.expiry_lists.specs.declared.nodes.Node.{Node}
-use Rattle.expiry_lists.specs.inner.Nodes.{NodeTable, has_spot, IsTree}
+use Rattle.expiry_lists.specs.inner.Nodes.{Node, NodeTable, has_spot, IsTree}
 use Rattle.expiry_lists.specs.inner.Tiles.{is_of_maps}
 
 -- the tables are a quadtree, and the groups of its places are listed

@@ -1,18 +1,22 @@
--- The tables that Marks keep. One has a node for each key that was shown. The other has a spot for
--- the place of each such key, and for each place above one: a word of bits, one for each of 64
--- maps. The square of a place of zoom 3 or later has four squares of the next zoom, whose places
--- are found by their numbers; so the spots are a quadtree for all maps of a group, and the places
--- are its links.
-use Rattle.std.specs.Prelude.{ℕ, ◌-◌, ◌*◌, ◌/◌, ◌%◌, ◌^◌, ◌≤◌, ◌<◌, ◌≡◌, ◌==◌, ◌&&◌, Bool, true, false, List, [], ◌∷◌, Option, Some, None, is_some}
+-- The tables that Marks keep. One has the version of each key that was shown. The other has a spot
+-- for the place of each such key, and for each place above one: words of bits, one for each of 64
+-- maps. A key is clean where its map has its bit among its place's own: so an expiry of a place
+-- touches its spot alone, for all maps of a group at once. The square of a place of zoom 3 or later
+-- has four squares of the next zoom, whose places are found by their numbers; so the spots are a
+-- quadtree for all maps of a group, and the places are its links.
+use Rattle.std.specs.Prelude.{ℕ, ◌+◌, ◌-◌, ◌*◌, ◌/◌, ◌%◌, ◌^◌, ◌≤◌, ◌<◌, ◌≡◌, ◌==◌, ◌&&◌, Bool, true, false, List, [], ◌∷◌, map, Option, Some, None, is_some, if◌then◌else◌}
 use Rattle.std.specs.Int.{bit_at}
 use Rattle.std.specs.Map.{lookup}
 use Rattle.farm_history.specs.declared.keys.Key.{Key}
 use Rattle.farm_history.specs.declared.keys.Mark.{Mark}
 use Rattle.farm_history.specs.Plans.{same_key}
 use Rattle.plain_world.specs.World.{IsMeta}
-use Rattle.expiry_lists.specs.declared.nodes.Node.{Node}
-use Rattle.expiry_lists.specs.declared.nodes.Spot.{Spot}
+use Rattle.expiry_lists.specs.declared.table.Spot.{Spot}
 use Rattle.expiry_lists.specs.Marks.{Shown}
+
+-- a key that was shown has a node, with its mark while it is shown
+pub record Node : Type 0 where
+  pub mark : Option Mark
 
 -- the key whose square is the quarter's that holds this key's square, for keys from zoom 4 on
 abbrev pub parent : Key → Key
@@ -37,8 +41,19 @@ has_bit word b = bit_at word b == 1
 abbrev pub at_bits : Key → ℕ → Key → Bool
 at_bits place word k = same_key place (place_of k) && has_bit word (bit_of k)
 
--- the tables: the nodes and the spots with their keys, in the order in which they came, and for how
--- many more of each there is room
+-- the key of the map of that bit at a place
+abbrev pub key_at : Key → ℕ → Key
+key_at p b = record { map = p.map * 64 + b; meta = p.meta }
+
+-- the tables as they are kept: the versions and the spots with their keys, in the order in which
+-- they came, and for how many more of each there is room
+pub record TablesSeen : Type 0 where
+  pub versions : List (Key × Option ℕ)
+  pub spots : List (Key × Spot)
+  pub room : ℕ
+  pub free : ℕ
+
+-- the same, with what each key has beside its version
 pub record NodeTable : Type 0 where
   pub entries : List (Key × Node)
   pub spots : List (Key × Spot)
@@ -101,6 +116,38 @@ owns_at ss p b = has_bit (own_word (spot_of ss p)) b
 
 abbrev pub lives_at : List (Key × Spot) → Key → ℕ → Bool
 lives_at ss p b = has_bit (live_word (spot_of ss p)) b
+
+-- the version of a key
+abbrev pub version_of : List (Key × Option ℕ) → Key → Option (Option ℕ)
+version_of vs k = lookup (same_key k) vs
+
+-- the mark of a key that has that version: it is clean where its bit is among its place's own
+abbrev pub seen_mark : List (Key × Spot) → Key → Option ℕ → Option Mark
+seen_mark ss k None = None
+seen_mark ss k (Some v) =
+    Some (record { version = v; clean = owns_at ss (place_of k) (bit_of k) })
+
+abbrev pub seen_node : List (Key × Spot) → Key × Option ℕ → Key × Node
+seen_node ss v = (v.0, record { mark = seen_mark ss v.0 v.1 })
+
+abbrev pub seen_nodes : List (Key × Spot) → List (Key × Option ℕ) → List (Key × Node)
+seen_nodes ss vs = map (seen_node ss) vs
+
+-- each own bit is that of a clean key
+abbrev pub AreOwned : List (Key × Node) → List (Key × Spot) → Type 0
+AreOwned es ss =
+    (p : Key) (b : ℕ) → b < 64 → owns_at ss p b ≡ true → is_clean_at es (key_at p b) ≡ true
+
+-- the key has that mark, and each other key what it had
+abbrev pub Gives : Key → Option Node → List (Key × Node) → List (Key × Node) → Type 0
+Gives key n old new = (k : Key) → node_of new k ≡ (if same_key key k then n else node_of old k)
+
+-- one bit of the own ones of the key's place is set or cleared, and all else is as it was
+pub record Owns (key : Key) (clean : Bool) (old new : List (Key × Spot)) : Type 0 where
+  pub owns : (p : Key) (b : ℕ) → b < 64 → owns_at new p b
+      ≡ (if same_key (place_of key) p && (b == bit_of key) then clean else owns_at old p b)
+  pub lives : (p : Key) (b : ℕ) → lives_at new p b ≡ lives_at old p b
+  pub there : (p : Key) → has_spot new p ≡ has_spot old p
 
 -- the keys and the places are those of metatiles, a shown key's place has a spot, above each spot
 -- stand spots up to zoom 3, a clean key has its bits, and what stands above a live one is live

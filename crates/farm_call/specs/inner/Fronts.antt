@@ -1,11 +1,11 @@
 -- What the three fronts of a farm that is served leave.
 use Rattle.std.specs.Prelude.{ℕ, List, Option}
 use Rattle.plain_world.specs.declared.world.Tile.{Tile}
-use Rattle.renderd_handler.specs.Renderd.{renderd_rules}
-use Rattle.http_handler.specs.Tiles.{tile_rules}
-use Rattle.control_handler.specs.Control.{control_rules}
-use Rattle.front_leaves.specs.Kinds.{Leaving}
-use Rattle.front_leaves.specs.Fronts.{FrontLeaves}
+use Rattle.session_front.specs.Renderd.{renderd_rules}
+use Rattle.tile_front.specs.Tiles.{tile_rules}
+use Rattle.control_front.specs.Control.{control_rules}
+use Rattle.front_loop.specs.Kinds.{Leaving}
+use Rattle.front_loop.specs.Leaves.{FrontLeaves}
 
 -- the renderd front, number 0, of a farm that has the maps of these names
 abbrev pub renderd_leaves : (List ℕ → Option ℕ) → Leaving

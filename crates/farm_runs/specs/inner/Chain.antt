@@ -6,8 +6,8 @@ use Rattle.farm_refinement.specs.Seen.{FarmSeen}
 use Rattle.farm_history.specs.declared.answers.Tally.{Tally as Totals}
 use Rattle.farm_history.specs.Entries.{Entry, Tally}
 use Rattle.farm_history.specs.Lists.{Each}
-use Rattle.port_events.specs.declared.ends.FrontDone.{FrontDone}
-use Rattle.port_events.specs.Told.{PortsTold}
+use Rattle.reactor_ports.specs.declared.ends.FrontDone.{FrontDone}
+use Rattle.reactor_ports.specs.Told.{PortsTold}
 use Rattle.turn_cell.specs.Turns.{StartsWith}
 use Rattle.turn_cell.specs.SeatStates.{Made, SeatState, IsSeatOf, SameSeat, Knows, joining, worn_out}
 use Rattle.farm_shared.specs.Seats.{plain}
@@ -17,7 +17,7 @@ use Rattle.render_workers.specs.declared.worker.WorkEnd.{WorkEnd}
 use Rattle.farm_runs.specs.declared.each_front.EachFront.{EachFront}
 use Rattle.farm_runs.specs.declared.pool.Actor.{Actor}
 use Rattle.farm_runs.specs.declared.together.RunSeats.{RunSeats}
-use Rattle.front_leaves.specs.Kinds.{Leaving}
+use Rattle.front_loop.specs.Kinds.{Leaving}
 use Rattle.farm_runs.specs.Actors.{WorkBy, IsReady, HasEnded, AreStanding}
 
 module _ {T : Type 0} where

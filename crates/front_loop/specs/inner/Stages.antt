@@ -8,13 +8,13 @@ use Rattle.farm_history.specs.declared.queues.Reply.{Reply}
 use Rattle.farm_history.specs.declared.queues.Outcome.TheVariants as outcome
 use Rattle.farm_history.specs.declared.answers.Collected.{Collected}
 use Rattle.farm_history.specs.declared.answers.Collected.TheVariants as collected
-use Rattle.port_events.specs.declared.events.PortEvent.{PortEvent}
-use Rattle.port_events.specs.declared.events.PortEvent.TheVariants as event
-use Rattle.port_events.specs.declared.events.SendFault.TheVariants as send_fault
-use Rattle.port_events.specs.declared.ends.FrontEnd.{FrontEnd}
-use Rattle.port_events.specs.declared.ends.FrontEnd.TheVariants as ended
-use Rattle.port_events.specs.Told.{PortsTold, Hears as HearsEvent, heard, after_send, after_close}
-use Rattle.port_events.specs.Boxes.{rest_in, put_rest}
+use Rattle.reactor_ports.specs.declared.events.PortEvent.{PortEvent}
+use Rattle.reactor_ports.specs.declared.events.PortEvent.TheVariants as event
+use Rattle.reactor_ports.specs.declared.events.SendFault.TheVariants as send_fault
+use Rattle.reactor_ports.specs.declared.ends.FrontEnd.{FrontEnd}
+use Rattle.reactor_ports.specs.declared.ends.FrontEnd.TheVariants as ended
+use Rattle.reactor_ports.specs.Told.{PortsTold, Hears as HearsEvent, heard, after_send, after_close}
+use Rattle.reactor_ports.specs.Boxes.{rest_in, put_rest}
 use Rattle.front_loop.specs.declared.dispositions.Disposition.{Disposition}
 use Rattle.front_loop.specs.declared.dispositions.Disposition.TheVariants.{Stays, Leaves}
 use Rattle.front_loop.specs.declared.dispositions.Reason.{Reason}

@@ -5,8 +5,8 @@ use Rattle.std.specs.List.{list_any}
 use Rattle.farm_base.specs.Limits.{most_rest_bytes}
 use Rattle.farm_history.specs.Lists.{Each}
 use Rattle.farm_history.specs.Entries.{Entry}
-use Rattle.port_events.specs.Told.{PortsTold, MayCome, IsOpen}
-use Rattle.port_events.specs.Boxes.{HasRest, rest_in}
+use Rattle.reactor_ports.specs.Told.{PortsTold, MayCome, IsOpen}
+use Rattle.reactor_ports.specs.Boxes.{HasRest, rest_in}
 use Rattle.front_loop.specs.declared.dispositions.Disposition.{Disposition}
 use Rattle.front_loop.specs.declared.dispositions.Disposition.TheVariants.{Stays, Leaves}
 use Rattle.front_loop.specs.declared.dispositions.Reason.{Reason}

@@ -1,7 +1,7 @@
 -- Single lines and words of a script, as the code reads them. Words of inner contracts.
 use Rattle.std.specs.Prelude.{ℕ, ◌^◌, nat_le, List, length, Result, Ok, Err}
 use Rattle.std.specs.Option.{ok_or}
-use Rattle.line_reading.specs.Numbers.{decimal_below}
+use Rattle.farm_base.specs.Numbers.{decimal_below}
 use Rattle.reading.specs.Steps.{◌>>=◌, check}
 use Rattle.script_lines.specs.declared.script.ScriptFault.{ScriptFault}
 use Rattle.script_lines.specs.declared.script.ScriptLine.{ScriptLine}

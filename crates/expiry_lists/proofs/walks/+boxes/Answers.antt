@@ -10,10 +10,6 @@ mark_boxes_dirty-returns-then-near-eq0-clause-walks t c =
     near_none c.args.nodes.now c.len-count.ensures.unique c.requires.tree c.args.size (18 - c.args.top.meta.z) c.args.top c.args.mask c.requires.size c.requires.node c.args.boxes.now c.gather-near.new.boxes c.gather-near.result c.gather-near.ensures.moved
     c.if-near-eq0.true (test_near (drop c.gather-near.result c.gather-near.new.boxes) c.args.size c.args.top c.margin_of-margin.result c.meta_square.result false c.margin_of-margin.ensures.value c.meta_square.ensures.value c.gather-near.ensures.others)
 
-pub mark_boxes_dirty-returns-then-not-is_live-clause-walks : goal.mark_boxes_dirty-returns-then-not-is_live-clause-walks
-mark_boxes_dirty-returns-then-not-is_live-clause-walks t c =
-    near_quiet c.args.nodes.now c.len-count.ensures.unique c.requires.tree c.args.size (18 - c.args.top.meta.z) c.args.top c.args.mask c.requires.size c.requires.node c.args.boxes.now (none_live _ c.args.mask (sym c.is_live.ensures ∙ c.if-not-is_live.true))
-
 pub mark_boxes_dirty-mark_near_dirty-requires : goal.mark_boxes_dirty-mark_near_dirty-requires
 mark_boxes_dirty-mark_near_dirty-requires t c =
     let falls : 2 * (18 - c.args.top.meta.z) < t = omega (arith, c.decreases) in
@@ -42,6 +38,10 @@ mark_boxes_dirty-returns-clause-moved t c = front_moved c.args.boxes.now c.gathe
 
 pub mark_near_dirty-returns-then-top-eq-LAST_ZOOM-clause-walks : goal.mark_near_dirty-returns-then-top-eq-LAST_ZOOM-clause-walks
 mark_near_dirty-returns-then-top-eq-LAST_ZOOM-clause-walks t c = near_own (18 - c.args.top.meta.z) c.args.size c.args.boxes.now c.args.top c.args.mask (omega (arith, c.if-top-eq-LAST_ZOOM.true)) c.requires.near c.mark_place_dirty.ensures.walks
+
+pub mark_near_dirty-returns-then-not-is_live-clause-walks : goal.mark_near_dirty-returns-then-not-is_live-clause-walks
+mark_near_dirty-returns-then-not-is_live-clause-walks t c =
+    near_quiet c.args.nodes.now c.len-count.ensures.unique c.requires.tree c.args.size (18 - c.args.top.meta.z) c.args.top c.args.mask c.requires.size c.requires.node c.args.boxes.now (none_live _ c.args.mask (sym c.is_live.ensures ∙ c.if-not-is_live.true))
 
 pub mark_near_dirty-overflow_add-result : goal.mark_near_dirty-overflow_add-result
 mark_near_dirty-overflow_add-result t c =

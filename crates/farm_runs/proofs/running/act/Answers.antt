@@ -1,5 +1,5 @@
 use Rattle.std.proofs.Common.{sym, subst, ◌∙◌}
-use Rattle.front_leaves.proofs.Laws.{kinds}
+use Rattle.front_loop.proofs.Leaves.{kinds}
 use Rattle.farm_runs.specs.Actors.{each_port, leaving}
 use Rattle.farm_shared.specs.Shared.{maps_of}
 use Rattle.farm_runs.specs.Promise.{RunsWell}

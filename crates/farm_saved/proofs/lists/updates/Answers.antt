@@ -1,8 +1,18 @@
-use Rattle.std.proofs.Common.{ap, ◌∙◌}
+use Rattle.std.proofs.Common.{ap, ◌∙◌, arith, rules}
 use Rattle.farm_saved.specs.Reading.{past_in}
-use Rattle.farm_saved.proofs.Loops.{many_fail}
+use Rattle.farm_saved.proofs.Loops.{many_more, many_fail, many_end}
 use Rattle.farm_saved.proofs.lists.updates.Goals as goal
 
 pub returns-in-Err-clause-value : goal.returns-in-Err-clause-value
 returns-in-Err-clause-value c = λ n. many_fail (past_in c.args.short) c.args.count c.loop.counter c.loop.updates.items c.loop.rest.now c.in-Err.fault _
     c.loop-test.true c.loop.invariant.told (c.in-Err.ensures.value ∙ ap (λ xs. past_in c.args.short xs c.loop.rest.now) c.as_slice.ensures.value)
+
+pub loop-preserved : goal.loop-preserved
+loop-preserved c = record {
+  told = many_more (past_in c.args.short) c.args.count c.loop.counter c.in-Ok.field.0 c.loop.updates.items _ c.loop.rest.now c.in-Ok.field.1.now _
+      c.loop-test.true c.loop.invariant.told (c.in-Ok.ensures.value ∙ ap (λ xs. past_in c.args.short xs c.loop.rest.now) c.as_slice.ensures.value) c.in_ok-push.ensures.items;
+  left = search (rules, arith);
+}
+
+pub returns-clause-value : goal.returns-clause-value
+returns-clause-value c = many_end (past_in c.args.short) c.args.count c.loop.counter c.loop.updates.items c.loop.rest.now _ c.loop-test.false c.loop.invariant.told

@@ -1,5 +1,5 @@
 use Rattle.std.proofs.Common.{◌^◌, ◌∙◌, arith}
-use Rattle.line_reading.proofs.NumberTexts.{number_known}
+use Rattle.farm_base.proofs.NumberTexts.{number_known}
 use Rattle.farm_words.proofs.Numbers.{some_below}
 use Rattle.farm_words.proofs.forms.number.Goals as goal
 

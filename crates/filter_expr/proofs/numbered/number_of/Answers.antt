@@ -1,4 +1,4 @@
-use Rattle.std.proofs.Common.{◌≡◌, sym, ◌∙◌}
+use Rattle.std.proofs.Common.{sym, ◌∙◌}
 use Rattle.filter_expr.proofs.Numbers.{named_at}
 use Rattle.filter_expr.proofs.numbered.number_of.Goals as goal
 

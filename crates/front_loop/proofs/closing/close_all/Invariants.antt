@@ -1,6 +1,6 @@
 use Rattle.std.proofs.Common.{◌≡◌, Bool, Option, length}
-use Rattle.port_events.specs.Told.{PortsTold}
-use Rattle.port_events.specs.declared.events.PortEvent.{PortEvent}
+use Rattle.reactor_ports.specs.Told.{PortsTold}
+use Rattle.reactor_ports.specs.declared.events.PortEvent.{PortEvent}
 use Rattle.front_loop.specs.Calls.{SameSeat}
 use Rattle.front_loop.specs.inner.Stages.{CanLeave}
 use Rattle.front_loop.specs.inner.Moments.{at, world}

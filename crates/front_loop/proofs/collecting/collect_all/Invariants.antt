@@ -1,7 +1,7 @@
 use Rattle.std.proofs.Common.{Option}
 use Rattle.farm_base.specs.Outside.{Outside}
-use Rattle.port_events.specs.Told.{PortsTold}
-use Rattle.port_events.specs.declared.events.PortEvent.{PortEvent}
+use Rattle.reactor_ports.specs.Told.{PortsTold}
+use Rattle.reactor_ports.specs.declared.events.PortEvent.{PortEvent}
 use Rattle.front_loop.specs.Calls.{SameSeat}
 use Rattle.front_loop.specs.inner.Stages.{CanCollect}
 use Rattle.front_loop.specs.inner.Moments.{at, world}

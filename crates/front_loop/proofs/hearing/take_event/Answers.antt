@@ -1,6 +1,6 @@
 use Rattle.std.proofs.Common.{sym, subst, ◌∙◌}
-use Rattle.port_events.specs.declared.events.PortEvent.{PortEvent}
-use Rattle.port_events.specs.declared.events.PortEvent.TheVariants as event
+use Rattle.reactor_ports.specs.declared.events.PortEvent.{PortEvent}
+use Rattle.reactor_ports.specs.declared.events.PortEvent.TheVariants as event
 use Rattle.front_loop.specs.inner.Stages.{MarksAt}
 use Rattle.front_loop.proofs.Opens.{opened_begins, opened_by}
 use Rattle.front_loop.proofs.Worlds.{came_as, starts_as, result_as, writable_begins, ended_begins, lost_begins, woken_table, finished_table}

@@ -1,5 +1,5 @@
 use Rattle.std.proofs.Common.{◌<◌, ◌∙◌, length, ap, sym, subst, List, ℕ}
-use Rattle.port_events.specs.Boxes.{rest_in, rest_of}
+use Rattle.reactor_ports.specs.Boxes.{rest_in, rest_of}
 use Rattle.front_loop.specs.declared.offering.Gave.{Gave}
 use Rattle.front_loop.specs.inner.Stages.{Gives, part_or_all}
 use Rattle.front_loop.proofs.Tries.{offered_rest, positive, all_given, part_given}

@@ -1,7 +1,7 @@
 use Rattle.std.proofs.Common.{◌≡◌, ◌≤◌, Bool, length, take, Option}
 use Rattle.farm_history.specs.Lists.{Each}
-use Rattle.port_events.specs.Told.{PortsTold}
-use Rattle.port_events.specs.declared.events.PortEvent.{PortEvent}
+use Rattle.reactor_ports.specs.Told.{PortsTold}
+use Rattle.reactor_ports.specs.declared.events.PortEvent.{PortEvent}
 use Rattle.front_loop.specs.inner.Stages.{CanOffer, OwesNone}
 use Rattle.front_loop.specs.inner.Moments.{at, world}
 use Rattle.front_loop.proofs.offering.offer_all.Given as goal

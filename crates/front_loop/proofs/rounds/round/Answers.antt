@@ -1,5 +1,5 @@
 use Rattle.std.proofs.Common.{List, ℕ, sym, subst}
-use Rattle.port_events.specs.Told.{Hears}
+use Rattle.reactor_ports.specs.Told.{Hears}
 use Rattle.front_loop.proofs.rounds.round.Goals as goal
 
 pub returns-in_default-clause-goes : goal.returns-in_default-clause-goes

@@ -1,5 +1,5 @@
 use Rattle.std.proofs.Common.{◌≤◌, Option}
-use Rattle.port_events.specs.Told.{PortsTold}
+use Rattle.reactor_ports.specs.Told.{PortsTold}
 use Rattle.front_loop.specs.Calls.{SameSeat}
 use Rattle.front_loop.specs.inner.Stages.{CanGo}
 use Rattle.front_loop.specs.inner.Moments.{at, world}

@@ -1,8 +1,8 @@
 use Rattle.std.proofs.Common.{ap, subst, List, ℕ}
 use Rattle.farm_history.specs.Entries.{Entry}
 use Rattle.farm_refinement.specs.Seen.{FarmSeen}
-use Rattle.farm_events.specs.Afters.{IsAfter}
-use Rattle.farm_events.proofs.Steps.{after_beside}
+use Rattle.farm_shared.specs.Afters.{IsAfter}
+use Rattle.farm_shared.proofs.Steps.{after_beside}
 use Rattle.farm_shared.proofs.closed.Closed.put_beside.Goals as goal
 
 pub returns-clause-stands : goal.returns-clause-stands

@@ -1,4 +1,4 @@
-use Rattle.std.proofs.Common.{◌≡◌, ◌<◌, ◌≤◌, ◌∙◌, length, ap, arith}
+use Rattle.std.proofs.Common.{◌<◌, ◌≤◌, ◌∙◌, length, ap, arith}
 use Rattle.plain_filters.specs.Filters.{tree_value}
 use Rattle.filter_expr.specs.Looked.{Looked}
 use Rattle.filter_expr.specs.Numbered.{name_at}

@@ -1,0 +1,153 @@
+//! Updates of very many ids, and of a layer of very many features.
+use crate::drawings::data;
+use data_versions::{LayerView, Snapshot, apply};
+use geo_json::read_update;
+use noted_puts::Letters;
+use std::alloc::Global;
+
+// What the features of a layer stand between.
+const DATA: [&str; 2] = [
+    r#"{"units":"world","layers":[{"name":"land","features":["#,
+    "]}]}",
+];
+
+// A feature, but for its id.
+const FEATURE: [&str; 2] = [r#"{"id":"#, r#","geometry":{"points":[[3,4]]}}"#];
+
+// What the ids stand between that are removed.
+const REMOVE: [&str; 2] = [
+    r#"{"units":"world","changes":[{"layer":"land","remove":["#,
+    r#"],"put":[{"id":7,"geometry":{"points":[[5,6]]}}]}]}"#,
+];
+
+const FAR_ON: &str =
+    r#"{"units":"world","changes":[{"layer":"land","remove":[2060],"put":[{"id":2070,"geometry":{"points":[[50,6]]}},{"id":9000,"geometry":{"points":[[60,7]]}}]}]}"#;
+
+/// A text of so many pieces, each with its number, with commas between them.
+pub(crate) fn numbered(
+    alloc: Global,
+    around: [&str; 2],
+    piece: [&str; 2],
+    count: u32,
+) -> Option<String> {
+    let [before, after] = around;
+    let [front, back] = piece;
+    let mut text = Letters::new(alloc);
+    text.put(before);
+    for number in 0..count {
+        text.put(if number > 0 { "," } else { "" });
+        text.put(front);
+        text.put_number(number);
+        text.put(back);
+    }
+    text.put(after);
+    text.into_text()
+}
+
+fn many(alloc: Global, count: u32) -> Option<Snapshot> {
+    let text = numbered(alloc, DATA, FEATURE, count)?;
+    data(alloc, text.as_str())
+}
+
+/// The next version of the data, by the text of an update; none where it is refused.
+pub(crate) fn updated(alloc: Global, old: &Snapshot, text: &str) -> Option<Snapshot> {
+    let update = read_update(alloc, text.as_bytes()).ok()?;
+    let new = apply(alloc, old, &update);
+    drop(update);
+    new.ok()
+}
+
+fn removed(alloc: Global, old: &Snapshot) -> Option<Snapshot> {
+    let text = numbered(alloc, REMOVE, ["", ""], 1001)?;
+    updated(alloc, old, text.as_str())
+}
+
+fn has_one(snapshot: &Snapshot, id: u64) -> bool {
+    let Some(layer) = snapshot.layer("land") else {
+        return false;
+    };
+    layer.len() == 1 && layer.place_of(id) == Some(0)
+}
+
+/// All 1,001 features go, and one comes back.
+pub fn an_update_of_1001_ids(alloc: Global) -> Option<[bool; 1]> {
+    let old = many(alloc, 1001)?;
+    let new = removed(alloc, &old);
+    drop(old);
+    let new = new?;
+    let is_so = has_one(&new, 7);
+    drop(new);
+    Some([is_so])
+}
+
+fn stands_at(layer: &LayerView<'_>, place: u32, id: u64) -> bool {
+    match layer.get(place) {
+        Some(feature) => feature.id() == id && layer.place_of(id) == Some(place),
+        None => false,
+    }
+}
+
+// All below 2,100 but 2,060, and then 9,000.
+fn has_ids(snapshot: &Snapshot) -> bool {
+    let Some(layer) = snapshot.layer("land") else {
+        return false;
+    };
+    for place in 0..2099u32 {
+        let id = if place < 2060 {
+            place
+        } else {
+            place.saturating_add(1)
+        };
+        if !stands_at(&layer, place, u64::from(id)) {
+            return false;
+        }
+    }
+    layer.len() == 2100 && stands_at(&layer, 2099, 9000)
+}
+
+fn only_place(snapshot: &Snapshot, x: u32) -> Option<u32> {
+    let layer = snapshot.layer("land")?;
+    let mut walk = layer.near(x, 0, x, 9);
+    let id = walk.next()?.id();
+    if walk.next().is_some() {
+        return None;
+    }
+    let place = layer.next_near(0, x, 0, x, 9)?;
+    if stands_at(&layer, place, id) {
+        Some(place)
+    } else {
+        None
+    }
+}
+
+fn is_changed(snapshot: &Snapshot) -> bool {
+    has_ids(snapshot)
+        && matches!(only_place(snapshot, 50), Some(2069))
+        && matches!(only_place(snapshot, 60), Some(2099))
+}
+
+fn is_unchanged(snapshot: &Snapshot) -> bool {
+    let Some(layer) = snapshot.layer("land") else {
+        return false;
+    };
+    for place in 0..2100u32 {
+        if !stands_at(&layer, place, u64::from(place)) {
+            return false;
+        }
+    }
+    layer.len() == 2100 && only_place(snapshot, 50).is_none() && only_place(snapshot, 60).is_none()
+}
+
+/// Of 2,100 features one that stands past 2,048 others goes, one is changed, and one is added. The data before are as they
+/// were.
+pub fn an_update_far_on(alloc: Global) -> Option<[bool; 2]> {
+    let old = many(alloc, 2100)?;
+    let Some(new) = updated(alloc, &old, FAR_ON) else {
+        drop(old);
+        return None;
+    };
+    let are_so = [is_changed(&new), is_unchanged(&old)];
+    drop(new);
+    drop(old);
+    Some(are_so)
+}

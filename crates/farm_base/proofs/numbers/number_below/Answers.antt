@@ -1,0 +1,17 @@
+use Rattle.std.proofs.Common.{◌≡◌, ◌^◌, Some, arith, sym, ◌∙◌}
+use Rattle.farm_base.proofs.NumberTexts.{lesser_known, lesser_none}
+use Rattle.farm_base.proofs.numbers.number_below.Goals as goal
+
+pub returns-in-Some-clause-value : goal.returns-in-Some-clause-value
+returns-in-Some-clause-value c =
+    lesser_known (2 ^ 32) c.args.bound c.args.text.now c.in-Some.number (omega arith) (omega arith) c.if-number-bound.true c.in-Some.ensures.value
+
+pub returns-in_default-clause-value : goal.returns-in_default-clause-value
+returns-in_default-clause-value c = lesser_none (2 ^ 32) c.args.bound c.args.text.now (omega arith) (omega arith) (λ n low e.
+    let other : Some c.in-Some.number ≡ Some n = c.in-Some.ensures.value ∙ e in
+    let same : c.in-Some.number ≡ n = cc in
+    omega arith)
+
+pub returns-in_default-2-clause-value : goal.returns-in_default-2-clause-value
+returns-in_default-2-clause-value c = lesser_none (2 ^ 32) c.args.bound c.args.text.now (omega arith) (omega arith) (λ n low e.
+    let bad = sym e ∙ sym c.small_number.ensures.value ∙ c.in_default.is in cc)

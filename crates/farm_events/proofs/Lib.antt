@@ -1,4 +1,0 @@
-pub mod Orders
-pub mod Flying
-pub mod Replying
-pub mod Steps

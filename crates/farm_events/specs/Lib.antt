@@ -1,4 +1,0 @@
-pub mod Seats
-pub mod Afters
-pub mod Promises
-pub mod Needs

@@ -1,5 +1,0 @@
-pub mod Wishes
-pub mod Says
-pub mod Heards
-pub mod Replieds
-pub mod OwnEntries

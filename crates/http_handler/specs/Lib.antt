@@ -1,3 +1,0 @@
-pub mod ConnStates
-pub mod Tiles
-pub mod inner

@@ -1,4 +1,0 @@
-pub mod Changes
-pub mod Hearing
-pub mod Overs
-pub mod Telling

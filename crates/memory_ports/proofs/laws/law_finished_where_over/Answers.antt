@@ -1,5 +1,0 @@
-use Rattle.memory_ports.proofs.Hearing.{finished_where_over}
-use Rattle.memory_ports.proofs.laws.law_finished_where_over.Goals as goal
-
-pub returns : goal.returns
-returns c = finished_where_over

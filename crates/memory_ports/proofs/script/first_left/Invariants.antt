@@ -1,7 +1,0 @@
--- The steps so far are passed over.
-use Rattle.std.proofs.Common.{drop}
-use Rattle.memory_ports.specs.Playing.{Passed}
-use Rattle.memory_ports.proofs.script.first_left.Given as goal
-
-abbrev pub invariant-loop-place : goal.invariant-loop-place
-invariant-loop-place l = Passed l.fn.peers (drop l.fn.from l.fn.steps) (drop l.place l.fn.steps) l.reached

@@ -1,4 +1,0 @@
-pub mod Held
-pub mod Playing
-pub mod Scripts
-pub mod inner

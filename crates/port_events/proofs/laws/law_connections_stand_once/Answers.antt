@@ -1,5 +1,0 @@
-use Rattle.port_events.proofs.Once.{once_put, once_without, once_added}
-use Rattle.port_events.proofs.laws.law_connections_stand_once.Goals as goal
-
-pub returns : goal.returns
-returns c = λ box conn rest h. (once_put box conn rest h, once_without box conn h, once_added box conn h)

@@ -1,2 +1,0 @@
--- Inner words, which serve the contracts of inner functions alone.
-pub mod Places

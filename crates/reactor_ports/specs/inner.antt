@@ -1,0 +1,4 @@
+-- Inner words, which serve the contracts of inner functions alone.
+pub mod Places
+pub mod Moving
+pub mod Pieces

@@ -1,5 +1,0 @@
-pub mod Making
-pub mod Streaming
-pub mod Takes
-pub mod Hearings
-pub mod Sorts

@@ -1,6 +1,0 @@
--- No failure was counted yet.
-use Rattle.std.proofs.Common.{◌≡◌}
-use Rattle.socket_ports.proofs.ports.SocketPortsPorts.next.Given as goal
-
-abbrev pub invariant-loop : goal.invariant-loop
-invariant-loop g l = l.self.faults ≡ l.fn.self.faults

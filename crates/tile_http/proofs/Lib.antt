@@ -1,2 +1,0 @@
-pub mod HeadTexts
-pub mod TargetTexts
