@@ -10,6 +10,7 @@ use Rattle.std.proofs.lemmas.Bool.Decides.{nat_tests}
 use Rattle.farm_history.specs.declared.keys.Key.{Key}
 use Rattle.farm_history.specs.Plans.{same_key}
 use Rattle.farm_history.proofs.Lists.{each-map, each-all, any-append, same_key-self, same_key-sym}
+use Rattle.farm_history.proofs.Since.{in_list}
 use Rattle.expiry_lists.specs.inner.Nodes.{NodeTable, node_of, place_of, bit_of, has_bit, at_bits, shown_of, IsTree}
 use Rattle.expiry_lists.specs.inner.Tiles.{is_one_of}
 use Rattle.expiry_lists.specs.inner.Walks.{Walks}
@@ -37,16 +38,11 @@ first_at [] i k apart at = cc
 first_at (x ∷ ks) zero k apart at = let same : x ≡ k = cc in rw same (rw (same_key-self k) refl)
 first_at (x ∷ ks) (suc i) k apart at = rw (other_first x k ks i apart.0 at) (omega (arith, first_at ks i k apart.1 at))
 
-within_list : {X : Type 0} (xs : List X) (i : ℕ) (x : X) → slice_get xs i ≡ Some x → i < length xs
-within_list [] i x at = cc
-within_list (y ∷ xs) zero x at = omega arith
-within_list (y ∷ xs) (suc i) x at = omega (arith, within_list xs i x at)
-
 pub place_at : {X : Type 0} (es : List (Key × X)) (i : ℕ) (k : Key) (v : X) → IsDistinct same_key (keys_of es) → slice_get es i ≡ Some (k, v) → position (same_key k) (keys_of es) ≡ Some i
 place_at es i k v apart at =
     let here = key_at_place es i k v at in
     let is : position_or_len (same_key k) (keys_of es) ≡ i = first_at (keys_of es) i k apart here in
-    let within : nat_lt i (length (keys_of es)) ≡ true = less (within_list (keys_of es) i k here) in
+    let within : nat_lt i (length (keys_of es)) ≡ true = less (in_list (keys_of es) i k here) in
     rw is (rw within refl)
   where
     less : {a b : ℕ} → a < b → nat_lt a b ≡ true

@@ -1,36 +1,32 @@
 -- From what a call did to what it promises.
-use Rattle.std.proofs.Common.{◌≡◌, ◌≢◌, ℕ, ◌⊎◌, inl, inr, List, [], true, refl, sym, ap, subst, ◌∙◌}
+use Rattle.std.proofs.Common.{◌≡◌, ◌≢◌, ℕ, ◌⊎◌, inl, inr, List, [], refl, sym, ap, subst, ◌∙◌}
 use Rattle.std.specs.Prelude.{Option, Some, None, IfSome, Result, Ok, Err}
 use Rattle.std.specs.Result.{result_map_both}
-use Rattle.farm_base.specs.Outside.{Outside, FilesTold, Rose}
+use Rattle.farm_base.specs.Outside.{Outside, Rose}
 use Rattle.farm_base.specs.declared.sinks.SinkFault.{SinkFault}
 use Rattle.tile_store.specs.Stores.{StoreTold}
-use Rattle.reactor_ports.specs.declared.ends.FrontDone.{FrontDone}
-use Rattle.reactor_ports.specs.Told.{PortsTold}
 use Rattle.exit_status.specs.Stops.{unreadable_line}
-use Rattle.exit_status.specs.Ends.{SinkAt, PutsAll, Reports, EndsWith}
+use Rattle.exit_status.specs.Ends.{SinkAt, PutsAll, EndsWith}
 use Rattle.exit_status.specs.declared.stops.Stop.{Stop}
 use Rattle.exit_status.specs.declared.stops.Stop.TheVariants as stop
 use Rattle.exit_status.proofs.Outsides.{PutCounts, put_counts}
 use Rattle.exit_status.proofs.Statuses.{puts_failed}
-use Rattle.farm_files.specs.Course.{Course, made, refused, reads, Leads}
+use Rattle.farm_files.specs.Course.{Course, made, refused, Leads}
 use Rattle.farm_files.specs.inner.Follows.{Follows}
 use Rattle.farm_files.specs.inner.Runs as calls
 use Rattle.farm_files.proofs.Courses.{IsEnd, one_end, ended}
 use Rattle.farm_files.specs.Inputs.{ServeInputs}
-use Rattle.farm_runs.specs.declared.each_front.EachFront.{EachFront}
 use Rattle.script_command.specs.Scripts.{Scripts}
 use Rattle.load_command.specs.Runs.{Loads}
-use Rattle.farm_call.specs.Serves.{ClosedFarm}
 use Rattle.farm_refinement.specs.Seen.{FarmSeen}
 use Rattle.farm_history.specs.Entries.{Entry}
 use Rattle.farm_call.specs.inner.Serving as inner
 use Rattle.farm_call.specs.inner.Serving.{World, HasServed, Serves}
 use Rattle.farm_call.specs.declared.left.Left.{Left}
 use Rattle.farm_call.specs.declared.left.Left.TheVariants.{Store, Farm}
-use Rattle.farm_call.specs.Call.{CallBefore, CallAfter, Work, puts, scripts, loads, serves, store_of, PortsRose}
+use Rattle.farm_call.specs.Call.{CallBefore, CallAfter, Work, puts, scripts, loads, serves}
 use Rattle.farm_call.specs.Words.{Asks}
-use Rattle.farm_call.specs.Keeps.{ComesTo, FilesMake, FilesRefuse, SavedRefused, ReadFailed, Idle, StoreIsLeft, ServesTo, Done, Worked, Cause, EndsFor, StoreFailed, TurnsAreGone, Unhindered, Served, Keeps}
+use Rattle.farm_call.specs.Keeps.{ComesTo, FilesMake, FilesRefuse, SavedRefused, ReadFailed, Idle, ServesTo, Done, Worked, Cause, EndsFor, StoreFailed, TurnsAreGone, Unhindered, Served, Keeps}
 use Rattle.farm_call.specs.inner.Works.{Does, world_before, world_after}
 use Rattle.farm_call.proofs.Asked.{asks_one}
 use Rattle.farm_call.proofs.Followed as follow

@@ -16,7 +16,7 @@ use Rattle.farm_history.proofs.Resumed.{rising_apart}
 use Rattle.farm_plan.specs.Plans.{FarmPlan, IsPlan}
 use Rattle.farm_plan.specs.Drawings.{plan_of}
 use Rattle.farm_plan.proofs.Spots.{served_key}
-use Rattle.farm_saved.specs.Laws.{PastFits, MapFits, HasNumbers}
+use Rattle.farm_saved.specs.Laws.{PastFits, MapFits}
 use Rattle.farm_saved.specs.Writing.{saved_bytes}
 use Rattle.farm_saved.specs.Reading.{saved_in}
 use Rattle.farm_saved.proofs.Back.{reads_back}

@@ -12,7 +12,6 @@ use Rattle.exit_status.specs.declared.stops.Stop.TheVariants as stop
 use Rattle.plain_world.specs.declared.world.Tile.{Tile}
 use Rattle.farm_history.specs.Entries.{Entry}
 use Rattle.farm_plan.specs.Plans.{FarmPlan, maps_in}
-use Rattle.farm_config.specs.Configs.{Config}
 use Rattle.farm_files.specs.Inputs.{FarmInputs, ServeInputs}
 use Rattle.farm_refinement.specs.Seen.{FarmSeen}
 use Rattle.farm_runs.specs.declared.each_front.EachFront.{EachFront}

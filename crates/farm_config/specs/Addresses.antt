@@ -1,6 +1,5 @@
 -- The addresses at which a farm listens.
-use Rattle.std.specs.Prelude.{◌≡◌, ℕ, ◌≤◌, ◌<◌, ◌⊎◌, Bool, false, ◌&&◌, nat_le, if◌then◌else◌, List, ◌++◌, length, codes, Option, Some, None, option_and_then, is_some, IsTrue, ◌↔◌}
-use Rattle.std.specs.Fmt.{decimal}
+use Rattle.std.specs.Prelude.{ℕ, Bool, false, ◌&&◌, nat_le, if◌then◌else◌, List, length, codes, Option, Some, None, option_and_then, is_some}
 use Rattle.std.specs.Str.{bytes_eq}
 use Rattle.farm_base.specs.Cuts.{cut_at}
 use Rattle.farm_base.specs.Numbers.{decimal_below}

@@ -1,9 +1,7 @@
 -- The kinds of values in a configuration. Each is read under the number of its key: a value of the
 -- wrong kind or a wrong text is Shape of it, a number outside its range is Range of it.
-use Rattle.std.specs.Prelude.{ℕ, Bool, if◌then◌else◌, List, Option, Some, Result, Ok, Err}
-use Rattle.std.specs.Option.{ok_or}
+use Rattle.std.specs.Prelude.{ℕ, if◌then◌else◌, List, Option, Some, Result, Ok, Err}
 use Rattle.serde_json.specs.Data.{Data}
-use Rattle.serde_json.specs.Find.{as_bool}
 use Rattle.reading.specs.Steps.{◌>>=◌}
 use Rattle.reading.specs.Values.{text, whole_number}
 use Rattle.farm_config.specs.Addresses.{is_address}

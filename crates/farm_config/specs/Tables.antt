@@ -1,6 +1,6 @@
 -- What a configuration says, key by key in reading order: the value, or the first fault with the
 -- number of its key. A line is a step; the first step that has a fault ends the reading.
-use Rattle.std.specs.Prelude.{ℕ, false, not, nat_le, nat_lt, List, [], ◌∷◌, length, codes, Option, None, Result, Ok}
+use Rattle.std.specs.Prelude.{ℕ, false, not, nat_le, nat_lt, List, [], ◌∷◌, length, codes, None, Result, Ok}
 use Rattle.std.specs.Option.{ok_or}
 use Rattle.serde_json.specs.Data.{Data}
 use Rattle.serde_json.specs.Find.{get, as_bool}

@@ -19,7 +19,7 @@ use Rattle.farm_history.specs.Plans.{Plan, Waits, AreApart, same_key, key_of, is
 use Rattle.farm_history.specs.Past.{Flight, is_stopped, version, flights, flight_in, without_ticket, flies_in, flies, jobs, stored_on, lost_on, shown, touches, is_touched_after, is_clean, with_dirty, after_answer, waiting, waits, numbers}
 use Rattle.farm_history.specs.Rules.{ask_rule, job_of, claim_rule, EndFits, FlightFits, Fits, Legal}
 use Rattle.farm_history.specs.inner.Asks.{Tests, answer_of_waiting, answer_by, tests_of}
-use Rattle.farm_history.specs.Laws.{AtMostOne, flight_key, Single}
+use Rattle.farm_history.specs.Laws.{AtMostOne, flight_key}
 use Rattle.farm_history.proofs.Lists.{same_key-true, same_key-self, same_key-sym, any-append, any-filter, not_any, find-any, find-not, waits_without_same, waits_without_other, apart-append, apart-filter}
 use Rattle.farm_history.proofs.Places.{shown_earlier, fresh_less, stale_stays, touched_stale}
 

@@ -26,7 +26,7 @@ use Rattle.drawing_reach.proofs.Unreached.{unreached}
 use Rattle.std.proofs.lemmas.List.Elements.{recursion_from_All}
 use Rattle.std.specs.List.{AllByRecursion}
 use Rattle.std.proofs.lemmas.Bool.{false_from_ne_true}
-use Rattle.farm_history.specs.Plans.{key_of, map_of, is_servable}
+use Rattle.farm_history.specs.Plans.{map_of}
 use Rattle.farm_history.specs.Plans as plans
 use Rattle.farm_history.specs.Lists.{Each}
 use Rattle.farm_history.proofs.Lists.{none-each, each-map, filter-append, each-all}

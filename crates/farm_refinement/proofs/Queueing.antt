@@ -40,7 +40,7 @@ use Rattle.render_queues.specs.OneQueue.{is_below, without}
 use Rattle.render_queues.specs.Tables.{Tables, line_of, after_place, after_take, after_end, after_leave, waits_on, reply_with, open_of, open_count, next_of, asked_by, replies_to_conn}
 use Rattle.farm_refinement.specs.Stands.{waits_key, asked_of, QueuesStand}
 use Rattle.farm_refinement.specs.inner.Events as events
-use Rattle.farm_refinement.specs.inner.Events.{asked_tables, waiter, waits_at, marked_tables, stale_tables}
+use Rattle.farm_refinement.specs.inner.Events.{asked_tables, waiter, waits_at, marked_tables}
 use Rattle.farm_refinement.proofs.Lining.{AreLines, in_line, limit_pushed, limit_cut, limit_lifted, lines_pushed, lines_cut, lines_lifted, below_is, waits_lines, next_is, next_there}
 
 -- ---- an entry that changes nothing of what waits, flies or is asked

@@ -9,7 +9,6 @@ use Rattle.front_loop.specs.Rules.{Rules}
 use Rattle.front_loop.specs.Kinds.{Leaving}
 use Rattle.front_loop.specs.Leaves.{FrontLeaves}
 use Rattle.turn_cell.specs.SeatStates.{Made, SeatState, IsSeatOf, SameSeat, Knows, joining, worn_out}
-use Rattle.farm_shared.specs.declared.turned.Turned.{Turned}
 use Rattle.farm_shared.specs.Seats.{plain}
 use Rattle.farm_shared.specs.Shared.{Adds}
 use Rattle.render_workers.specs.declared.worker.WorkEnd.{WorkEnd}

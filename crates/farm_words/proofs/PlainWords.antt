@@ -1,5 +1,5 @@
 -- Where no word is empty or begins with `-`, clap's values are the words.
-use Rattle.std.proofs.Common.{◌≡◌, ℕ, suc, List, [], ◌∷◌, ◌++◌, length, false, arith, ne_eqb, Option, Some, None, fold, refl, sym, ap, ◌∙◌, append_assoc}
+use Rattle.std.proofs.Common.{◌≡◌, suc, List, [], ◌∷◌, ◌++◌, length, false, arith, ne_eqb, Option, Some, None, fold, refl, sym, ap, ◌∙◌, append_assoc}
 use Rattle.std.specs.Prelude.{codes, is_some, unwrap_or, ◌==◌, if◌then◌else◌}
 use Rattle.clap.specs.Kinds.{Kinds, or_else}
 use Rattle.clap.specs.Walk.{Text, Row, Rule, Walk, positional, walked, walk_from, nothing_held, settled, with_default}

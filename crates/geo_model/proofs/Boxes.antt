@@ -1,5 +1,5 @@
 -- The box that is widened point by point is the least one that holds all points.
-use Rattle.std.proofs.Common.{◌≡◌, ℕ, ◌≤◌, ◌^◌, List, [], ◌∷◌, length, refl, arith}
+use Rattle.std.proofs.Common.{◌≡◌, ℕ, ◌≤◌, List, [], ◌∷◌, length, refl, arith}
 use Rattle.std.proofs.lemmas.Bool.Decides.{nat_tests}
 use Rattle.std.specs.Prelude.{All, fold, Bool, true, false, ◌||◌, nat_lt, None}
 use Rattle.std.specs.List.{AllByRecursion, list_any}

@@ -1,5 +1,5 @@
 -- Bounding boxes: the least rectangle that holds all points of a shape.
-use Rattle.std.specs.Prelude.{ℕ, ◌^◌, ◌≤◌, min, max, Bool, ◌&&◌, nat_le, List, fold, All}
+use Rattle.std.specs.Prelude.{◌^◌, ◌≤◌, min, max, Bool, ◌&&◌, nat_le, List, fold, All}
 use Rattle.plain_world.specs.declared.world.Point.{Point}
 use Rattle.geo_model.specs.declared.bounds.Bounds.{Bounds}
 

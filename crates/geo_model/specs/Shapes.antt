@@ -7,7 +7,6 @@ use Rattle.plain_world.specs.declared.world.Point.{Point}
 use Rattle.plain_shapes.specs.declared.shapes.Geometry.{Geometry}
 use Rattle.plain_shapes.specs.declared.shapes.Geometry.TheVariants.{Points, Lines, Polygon}
 use Rattle.plain_world.specs.World.{InWorld}
-use Rattle.plain_shapes.specs.Features.{Feature}
 use Rattle.geo_model.specs.declared.faults.GeoFault.{GeoFault}
 use Rattle.plain_shapes.specs.Limits.{most_points, most_attrs}
 use Rattle.geo_model.specs.declared.faults.GeoFault.TheVariants.{TooFewPoints, OutOfWorld, TooManyPoints, TooManyAttrs, DoubleName}

@@ -2,7 +2,7 @@
 use Rattle.std.proofs.Common.{◌≡◌, ℕ, ◌-◌, ◌<◌, ◌≤◌, List, [], ◌∷◌, ◌++◌, length, Option, Some, None, option_map, refl, ap, ◌∙◌}
 use Rattle.json.specs.Token.{Token}
 use Rattle.json.specs.Json as json
-use Rattle.json.specs.Json.{Parse, parse_map, after_end_array, read_key, items, members, value, if_last}
+use Rattle.json.specs.Json.{Parse, parse_map, after_end_array, read_key, items, members, value}
 use Rattle.json.proofs.Grammar.{value-begin_array, value-begin_object, items_end, items_more, members_end, members_more}
 use Rattle.serde_json.specs.Data.{Data, array, object, Items, no_items, item, Members, no_members, put}
 use Rattle.serde_json.specs.Read.{of_json, of_items, of_members, converted}

@@ -5,7 +5,6 @@ use Rattle.farm_base.specs.declared.faults.ApplyFault.{ApplyFault}
 use Rattle.plain_shapes.specs.Features.{Layer}
 use Rattle.plain_shapes.specs.Data.{update_result}
 use Rattle.farm_history.specs.declared.keys.Key.{Key}
-use Rattle.farm_history.specs.declared.keys.Kept.{Kept}
 use Rattle.farm_history.specs.declared.saved.Past.{Past}
 use Rattle.farm_history.specs.Replays.{Saving, past_number}
 use Rattle.farm_plan.specs.Plans.{MapPlan, Restyle, FarmPlan}

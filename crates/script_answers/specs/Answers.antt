@@ -1,11 +1,10 @@
 -- The lines in which a script is answered. Each ends with a newline. Want of memory has no line.
-use Rattle.std.specs.Prelude.{◌≡◌, ℕ, true, false, if◌then◌else◌, List, [], ◌++◌, length, codes, slice_get, unwrap_or, Option, Some, None}
+use Rattle.std.specs.Prelude.{ℕ, true, false, if◌then◌else◌, List, [], ◌++◌, length, codes, slice_get, unwrap_or, Option, Some, None}
 use Rattle.std.specs.Fmt.{decimal}
 use Rattle.farm_base.specs.declared.faults.ApplyFault.{ApplyFault}
 use Rattle.farm_base.specs.declared.faults.ApplyFault.TheVariants as apply
 use Rattle.farm_base.specs.declared.faults.MetaFault.{MetaFault}
 use Rattle.farm_base.specs.declared.faults.MetaFault.TheVariants as container
-use Rattle.farm_history.specs.declared.keys.Key.{Key}
 use Rattle.farm_history.specs.declared.asks.Why.{Why}
 use Rattle.farm_history.specs.declared.asks.Why.TheVariants as why
 use Rattle.farm_history.specs.declared.asks.AskAnswer.{AskAnswer}

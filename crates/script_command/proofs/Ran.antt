@@ -1,5 +1,5 @@
 -- A script that was run, as the command ends.
-use Rattle.std.proofs.Common.{◌≡◌, ◌≤◌, ℕ, inl, Bool, true, false, List, [], length, take, refl, sym, subst, arith}
+use Rattle.std.proofs.Common.{◌≡◌, ℕ, inl, Bool, true, false, List, [], length, take, refl, sym, subst, arith}
 use Rattle.std.specs.Prelude.{None, Result}
 use Rattle.std.proofs.lemmas.List.{take_all}
 use Rattle.farm_base.specs.Outside.{Outside}

@@ -1,5 +1,5 @@
 -- The lines of a script: from the first on, and one that is refused.
-use Rattle.std.proofs.Common.{◌≡◌, ℕ, ◌≤◌, List, [], ◌∷◌, Result, Ok, Err, refl}
+use Rattle.std.proofs.Common.{◌≡◌, ℕ, ◌≤◌, List, [], ◌∷◌, Result, Err, refl}
 use Rattle.std.specs.Str.Lines.{lines}
 use Rattle.reading.specs.Lines.{items_after}
 use Rattle.reading.proofs.LineLoop.{items_refused}

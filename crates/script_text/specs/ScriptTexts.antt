@@ -1,7 +1,6 @@
 -- What a script puts: line by line its entry, if it has one, and its answer.
 use Rattle.std.specs.Prelude.{◌≡◌, ℕ, ◌==◌, Bool, true, false, List, [], ◌∷◌, ◌++◌, map, codes, Some}
 use Rattle.std.specs.List.{list_any}
-use Rattle.std.specs.Str.{bytes_eq}
 use Rattle.plain_world.specs.declared.world.Tile.{Tile}
 use Rattle.plain_world.specs.World.{IsTile}
 use Rattle.farm_history.specs.declared.queues.Conn.{Conn}

@@ -1,5 +1,5 @@
 -- The data and the plan are sound.
-use Rattle.std.proofs.Common.{◌≡◌, ◌≤◌, inl, inr, List, [], ◌∷◌, length, Bool, true, false, eqb, refl, arith}
+use Rattle.std.proofs.Common.{◌≡◌, ◌≤◌, List, [], ◌∷◌, length, Bool, true, false, eqb, refl, arith}
 use Rattle.std.specs.Prelude.{ℕ, ◌/◌, codes, if◌then◌else◌}
 use Rattle.std.specs.List.{IsDistinct}
 use Rattle.std.specs.Str.{bytes_eq}

@@ -1,7 +1,6 @@
 -- The stages of a round: what each does to the sessions, the round that is being made, and all that is told by it.
 use Rattle.std.specs.Prelude.{◌≡◌, ℕ, ◌+◌, ◌-◌, ◌^◌, ◌<◌, ◌≤◌, Bool, true, false, ◌⊎◌, cond, min, List, [], ◌∷◌, ◌++◌, length, drop, set, Option, Some, None, option_map, Ok, Err, nat_lt}
 use Rattle.farm_base.specs.Limits.{most_rest_bytes, most_sessions}
-use Rattle.farm_base.specs.declared.turns.Worn.{Worn}
 use Rattle.farm_history.specs.Lists.{Each}
 use Rattle.farm_history.specs.Entries.{Entry, Stop}
 use Rattle.farm_history.specs.declared.queues.Reply.{Reply}

@@ -1,5 +1,5 @@
 -- Single lines and words of a script, as the code reads them. Words of inner contracts.
-use Rattle.std.specs.Prelude.{ℕ, ◌^◌, nat_le, List, length, Result, Ok, Err}
+use Rattle.std.specs.Prelude.{ℕ, ◌^◌, nat_le, List, length, Result, Ok}
 use Rattle.std.specs.Option.{ok_or}
 use Rattle.farm_base.specs.Numbers.{decimal_below}
 use Rattle.reading.specs.Steps.{◌>>=◌, check}

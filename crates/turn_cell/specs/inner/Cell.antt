@@ -1,7 +1,7 @@
 -- The rule of the cell's table: what holds at every moment of the three words, of the value and of what all seats have seen.
 -- The words are the next ticket to draw (0), the ticket that is served (1) and the number of entries (2). The one slot has the
 -- value, or nothing while a turn has it.
-use Rattle.std.specs.Prelude.{◌≡◌, ℕ, suc, ◌+◌, ◌^◌, ◌≤◌, true, false, List, [], ◌∷◌, map, length, sum, sum_by, Option, Some, None}
+use Rattle.std.specs.Prelude.{◌≡◌, ℕ, suc, ◌+◌, ◌≤◌, true, false, List, [], ◌∷◌, map, length, sum, sum_by, Option, Some, None}
 use Rattle.std.specs.List.{range_with_len}
 use mathlib.Core.Option.{some}
 use lib.ListN.{get_elem?}

@@ -1,4 +1,4 @@
-use Rattle.farm_call.proofs.Asked.{ReadsWords, runs_words, sound_read}
+use Rattle.farm_call.proofs.Asked.{runs_words, sound_read}
 use Rattle.farm_call.proofs.Keeping.{keeps}
 use Rattle.farm_call.proofs.call.farm_main.Goals as goal
 

@@ -1,4 +1,4 @@
-use Rattle.std.proofs.Common.{◌^◌, ◌∙◌, arith}
+use Rattle.std.proofs.Common.{◌^◌, ◌∙◌}
 use Rattle.farm_base.proofs.NumberTexts.{number_known}
 use Rattle.farm_words.proofs.Numbers.{some_below}
 use Rattle.farm_words.proofs.forms.number.Goals as goal

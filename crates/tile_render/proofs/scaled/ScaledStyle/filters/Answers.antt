@@ -1,4 +1,4 @@
-use Rattle.std.proofs.Common.{◌≡◌, ◌∙◌, map, ap, sym}
+use Rattle.std.proofs.Common.{◌∙◌, map, ap, sym}
 use Rattle.std.specs.Prelude.{option_map}
 use Rattle.plain_filters.specs.Filters.{tree_of}
 use Rattle.tile_render.specs.inner.Chosen.{filters_at}
