@@ -1,4 +1,5 @@
 pub mod Outcomes
 mod Reading
+mod Fronts
 pub mod NumberTexts
 pub mod CutTexts

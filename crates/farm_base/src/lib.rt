@@ -40,6 +40,6 @@ pub use listed::Listed;
 pub use memory::NoMemory;
 pub use numbers::{number, number_below, small_number};
 pub use sinks::{MemSink, Sink, SinkFault};
-pub use texts::{Bytes, Text};
+pub use texts::{Bytes, Text, put_front};
 pub use turns::Worn;
 pub use values::{Attr, Value};

@@ -1,5 +1,5 @@
 //! A text and a list of bytes: plain wrappers that contracts see as lists of bytes.
-ghost use Rattle.std.specs.Prelude.{◌≡◌, IfOk, string_bytes};
+ghost use Rattle.std.specs.Prelude.{◌≡◌, ◌≤◌, ◌++◌, IfOk, OnOk, length, drop, string_bytes};
 
 use crate::memory::NoMemory;
 use arrayvec::ArrayString;
@@ -60,18 +60,30 @@ impl Text {
     }
 }
 
-/// A list of bytes, which contracts see as that list.
+/// A list of bytes, which contracts see as that list. The first `start` bytes of the vector are no part of it: a head that
+/// is as long can be put there, so that what follows it is not copied.
 #[derive(Drop)]
 pub struct Bytes {
     inner: Vec<u8>,
+    start: usize,
 }
 
 impl Model for Bytes {
-    ghost use Rattle.std.specs.Prelude.{List, ℕ};
+    ghost use Rattle.std.specs.Prelude.{List, ℕ, ◌≤◌, length, drop};
 
     ghost Value = { List ℕ };
 
-    ghost view = { λ b. b.inner.items };
+    ghost view = { λ b. drop b.start b.inner.items };
+
+    ghost invariant = { λ b. b.start ≤ length b.inner.items };
+}
+
+/// Copies bytes over as many at a vector's front.
+pub fn put_front(bytes: &mut Vec<u8>, front: &[u8])
+    requires { length front.now ≤ length bytes.old.items }
+    ensures { bytes.new.items ≡ front.now ++ drop (length front.now) bytes.old.items }
+{
+    bytes[0..front.len()].copy_from_slice(front);
 }
 
 impl Bytes {
@@ -79,22 +91,48 @@ impl Bytes {
     pub fn of(alloc: Global, bytes: &[u8]) -> Result<Bytes, NoMemory>
         ensures { IfOk result (λ b. b ≡ bytes.now) }
     {
-        Ok(Bytes {
-            inner: Vec::from_slice(alloc, bytes)?,
-        })
+        Ok(Bytes::from_vec(Vec::from_slice(alloc, bytes)?))
     }
 
     /// The bytes of a vector, which is moved in.
     pub fn from_vec(bytes: Vec<u8>) -> Bytes
         ensures { result ≡ bytes.items }
     {
-        Bytes { inner: bytes }
+        Bytes::behind_room(bytes, 0)
+    }
+
+    /// The bytes of a vector behind its first `room` ones, which stay as room for a head.
+    pub fn behind_room(bytes: Vec<u8>, room: usize) -> Bytes
+        requires { room ≤ length bytes.items }
+        ensures { result ≡ drop room bytes.items }
+    {
+        Bytes {
+            inner: bytes,
+            start: room,
+        }
     }
 
     /// The bytes themselves.
     pub fn as_slice(&self) -> &[u8]
         ensures { result.now ≡ self.now }
     {
-        self.inner.as_slice()
+        &self.inner[self.start..]
+    }
+
+    /// Puts a head and then the bytes behind those of a vector. Where that has none, and the head is as long as the room
+    /// before the bytes, it becomes their own vector, and the bytes are not copied.
+    pub fn put_with_head(self, head: &[u8], into: &mut Vec<u8>) -> Result<(), NoMemory>
+        ensures { OnOk result (into.new.items ≡ into.old.items ++ head.now ++ self) }
+    {
+        let Bytes { mut inner, start } = self;
+        if into.is_empty() && start == head.len() {
+            put_front(&mut inner, head);
+            *into = inner;
+            return Ok(());
+        }
+        into.reserve(head.len() + (inner.len() - start))?;
+        into.extend_from_slice(head)?;
+        into.extend_from_slice(&inner[start..])?;
+        Ok(())
     }
 }

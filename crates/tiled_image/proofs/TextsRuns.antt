@@ -1,10 +1,8 @@
 -- A run of colours among bytes.
-use Rattle.std.proofs.Common.{◌≡◌, ℕ, ◌+◌, ◌-◌, ◌*◌, ◌/◌, ◌≤◌, List, [], ◌∷◌, ◌++◌, length, take, drop, map, replicate, flat_map, refl, ap, sym, ◌∙◌, arith, append_assoc}
-use Rattle.std.proofs.lemmas.List.{take_at, drop_at, take_all, drop_all, append-nil, with_items_is}
+use Rattle.std.proofs.Common.{◌≡◌, ℕ, ◌+◌, ◌-◌, ◌*◌, ◌/◌, List, [], ◌∷◌, ◌++◌, length, take, drop, map, replicate, flat_map, refl, ap, sym, ◌∙◌, arith, append_assoc}
+use Rattle.std.proofs.lemmas.List.{take_at, drop_at, take_all, drop_all, append-nil}
 use Rattle.std.proofs.lemmas.Grind.{flat_map-append}
-use Rattle.std.specs.Vec.{with_items}
-use Rattle.std.specs.declared.vec.Vec.{Vec}
-use borrow.Rule.Slice.PartMut.{put_mid, same_len_mid, mid_len}
+use borrow.Rule.Slice.PartMut.{put_mid}
 use Rattle.plain_shapes.specs.declared.colour.Colour.{Colour}
 use Rattle.plain_shapes.specs.Ppm.{pixel_bytes}
 use Rattle.plain_shapes.specs.Blending.{blend}
@@ -41,15 +39,3 @@ hidden c n [] size = ap (λ k. replicate k c) (sym size)
 hidden c n (d ∷ ds) size =
     ap (λ k. replicate k c) (sym size)
     ∙ (λ i. record { r = opaque_channel c.r d.r i; g = opaque_channel c.g d.g i; b = opaque_channel c.b d.b i } ∷ hidden c (length ds) ds refl i)
-
--- the list of bytes after others were copied to its front
-pub front_put : {Z : Type 0} (v : Vec ℕ Z) (bytes front next : List ℕ) → length front ≤ length bytes → bytes ≡ v.items → length bytes ≡ v.len → next ≡ front
-    → (with_items v (put_mid 0 (length front - 0) bytes next)).items ≡ front ++ drop (length front) v.items
-front_put v bytes front next few value len copied =
-    let all : length front - 0 ≡ length front = omega arith in
-    let part : length next ≡ length front - 0 = ap length copied ∙ sym all in
-    let as_many : length (put_mid 0 (length front - 0) bytes next) ≡ v.len = same_len_mid 0 (length front - 0) bytes next (part ∙ sym (mid_len 0 (length front) bytes few)) ∙ len in
-    with_items_is v (put_mid 0 (length front - 0) bytes next) as_many
-    ∙ ap (λ n. next ++ drop n bytes) all
-    ∙ ap (λ bs. bs ++ drop (length front) bytes) copied
-    ∙ ap (λ bs. front ++ drop (length front) bs) value

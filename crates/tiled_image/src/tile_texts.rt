@@ -10,7 +10,7 @@ ghost use Rattle.plain_world.specs.Limits.{most_side};
 ghost use Rattle.plain_world.specs.World.{IsTileSize};
 ghost use Rattle.tiled_image.specs.inner.Blanks.{text_of};
 
-use farm_base::NoMemory;
+use farm_base::{NoMemory, put_front};
 use plain_image::{Image, ReadyLine, paint_run, text_head};
 use plain_shapes::Colour;
 use std::alloc::Global;
@@ -101,13 +101,6 @@ fn copies(alloc: Global, before: usize, count: u32, text: &Blank) -> Result<Vec<
         put_blank(text, &mut out)?;
     }
     Ok(out)
-}
-
-fn put_front(bytes: &mut Vec<u8>, front: &[u8])
-    requires { length front.now ≤ length bytes.old.items }
-    ensures { bytes.new.items ≡ front.now ++ drop (length front.now) bytes.old.items }
-{
-    bytes[0..front.len()].copy_from_slice(front);
 }
 
 fn pixels_at(before: usize, head: usize, pixels: usize, tile: usize) -> usize

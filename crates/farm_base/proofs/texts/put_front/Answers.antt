@@ -1,7 +1,7 @@
 use Rattle.std.proofs.Common.{◌≡◌, ◌≤◌, ◌-◌, length, ap, ◌∙◌, arith}
 use borrow.Rule.Slice.PartMut.{mid_len}
-use Rattle.tiled_image.proofs.TextsRuns.{front_put}
-use Rattle.tiled_image.proofs.tile_texts.put_front.Goals as goal
+use Rattle.farm_base.proofs.Fronts.{front_put}
+use Rattle.farm_base.proofs.texts.put_front.Goals as goal
 
 pub copy_from_slice-requires : goal.copy_from_slice-requires
 copy_from_slice-requires c =
