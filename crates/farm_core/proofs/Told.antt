@@ -23,13 +23,11 @@ use Rattle.farm_history.specs.declared.answers.Updated.{Updated}
 use Rattle.farm_history.specs.declared.answers.Restyled.{Restyled}
 use Rattle.farm_history.specs.declared.answers.Fetched.{Fetched}
 use Rattle.farm_history.specs.declared.answers.Collected.{Collected}
-use Rattle.farm_history.specs.declared.answers.Looked.{Looked}
-use Rattle.farm_history.specs.declared.answers.Tally.{Tally as Totals}
-use Rattle.farm_history.specs.Entries.{Entry, Claim, Finish, Update, Restyle, Expire, Fetch, Look, Collect, Leave, Stop, Tally}
+use Rattle.farm_history.specs.Entries.{Entry, Claim, Finish, Update, Restyle, Expire, Fetch, Collect, Leave, Stop}
 use Rattle.farm_history.specs.Plans.{Waits, is_servable, same_key, key_of, spot_tile, overlaps}
 use Rattle.farm_history.specs.Past.{flights}
 use Rattle.farm_history.specs.Laws.{flight_key}
-use Rattle.farm_history.specs.Rules.{job_of}
+use Rattle.farm_history.specs.Rules.{Fits, job_of}
 use Rattle.farm_history.specs.Seen.{Taken, taken_of}
 use Rattle.farm_plan.specs.Plans.{Restyle as PlanStyle}
 use Rattle.farm_plan.specs.Drawings.{plan_of, update_of, key_path}
@@ -39,13 +37,14 @@ use Rattle.farm_refinement.specs.Seen.{FarmSeen}
 use Rattle.farm_plan.specs.Jobs.{JobSeen, job_key, job_text, IsFlight}
 use Rattle.farm_refinement.specs.Reads.{fetched_by}
 use Rattle.farm_refinement.specs.Stands.{StandsFor}
-use Rattle.farm_refinement.specs.inner.Events.{claim_at, collected_by, look_at, stale_tables, stopped_counts, stored_counts, taken_at, tally_of, untaken}
+use Rattle.farm_refinement.specs.inner.Events.{claim_at, collected_by, stale_tables, stopped_counts, stored_counts, taken_at, untaken}
 use Rattle.farm_refinement.proofs.Claiming.{claim_none_step, claim_job_step}
 use Rattle.farm_refinement.proofs.Changing.{update_step, update_refused_step, update_unknown_step, restyle_step, restyle_unknown_step, expire_step}
 use Rattle.farm_refinement.proofs.Finishing.{finish_stored_step, finish_lost_step, finish_cut_step}
 use Rattle.farm_refinement.proofs.Marking.{dirtied_at}
-use Rattle.farm_refinement.proofs.Reading.{fetch_unservable_step, fetch_missing_step, fetch_read_step, look_step}
-use Rattle.farm_refinement.proofs.Replying.{collect_none_step, collect_reply_step, leave_step, stop_step, tally_step}
+use Rattle.farm_refinement.proofs.Reading.{fetch_unservable_step, fetch_missing_step, fetch_read_step}
+use Rattle.farm_refinement.proofs.Replying.{collect_none_step, collect_reply_step, leave_step, stop_step}
+use Rattle.farm_refinement.proofs.Stepping.{is_idle, idle_step}
 use Rattle.farm_core.specs.inner.Effects.{Advances, Claims, Collects, Fetches, EndsDrawing, Dirties, after_claim, is_crowded, turn}
 
 -- the place that was written holds what was written, and others what they held
@@ -215,9 +214,9 @@ module _ {D : Type 0} (state : D → Outside StoreTold) where
 
   -- ---- reads
 
-  pub look_told : (told : Bool) (old new : FarmSeen D) (h : List Entry) (spot : Spot) (answer : Looked) → new ≡ turn old → answer ≡ look_at old spot → StandsFor state told old h → StandsFor state told new (Look spot answer ∷ h)
-  look_told told old new h spot answer same is s =
-      subst (λ (a : Looked). StandsFor state told new (Look spot a ∷ h)) (sym is) (subst (λ (f : FarmSeen D). StandsFor state told f (Look spot (look_at old spot) ∷ h)) (sym same) (look_step state told old h spot s))
+  -- an event of which nothing but the number of calls comes, with a right answer
+  pub idle_told : (told : Bool) (old new : FarmSeen D) (h : List Entry) (e : Entry) → new ≡ turn old → is_idle e ≡ true → Fits (plan_of old.plan) told h e → StandsFor state told old h → StandsFor state told new (e ∷ h)
+  idle_told told old new h e same is fits s = subst (λ (f : FarmSeen D). StandsFor state told f (e ∷ h)) (sym same) (idle_step state told old h e is fits s)
 
   pub fetch_unservable : (told : Bool) (old new : FarmSeen D) (h : List Entry) (spot : Spot) → new ≡ turn old → is_servable (plan_of old.plan) spot ≡ false → StandsFor state told old h → StandsFor state told new (Fetch spot Fetched.Unservable ∷ h)
   fetch_unservable told old new h spot same off s = subst (λ (f : FarmSeen D). StandsFor state told f (Fetch spot Fetched.Unservable ∷ h)) (sym same) (fetch_unservable_step state told old h spot off s)
@@ -248,7 +247,3 @@ module _ {D : Type 0} (state : D → Outside StoreTold) where
 
   pub stop_told : (told : Bool) (old new : FarmSeen D) (h : List Entry) → new ≡ record old { counts = stopped_counts old.counts } → StandsFor state told old h → StandsFor state told new (Stop ∷ h)
   stop_told told old new h same s = subst (λ (f : FarmSeen D). StandsFor state told f (Stop ∷ h)) (sym same) (stop_step state told old h s)
-
-  pub tally_told : (told : Bool) (old new : FarmSeen D) (h : List Entry) (counts : Totals) → new ≡ turn old → counts ≡ tally_of old.counts → StandsFor state told old h → StandsFor state told new (Tally counts ∷ h)
-  tally_told told old new h counts same is s =
-      subst (λ (c : Totals). StandsFor state told new (Tally c ∷ h)) (sym is) (subst (λ (f : FarmSeen D). StandsFor state told f (Tally (tally_of old.counts) ∷ h)) (sym same) (tally_step state told old h s))

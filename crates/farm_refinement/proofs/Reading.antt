@@ -24,7 +24,7 @@ use Rattle.farm_history.specs.declared.keys.Mark.{Mark}
 use Rattle.farm_history.specs.declared.asks.Spot.{Spot}
 use Rattle.farm_history.specs.declared.answers.Fetched.{Fetched}
 use Rattle.farm_history.specs.declared.answers.Looked.{Looked}
-use Rattle.farm_history.specs.Entries.{Entry, Fetch, Look}
+use Rattle.farm_history.specs.Entries.{Entry, Fetch}
 use Rattle.farm_history.specs.Plans.{Plan, key_of, map_of, spot_tile, is_servable}
 use Rattle.farm_history.specs.Past.{is_stopped, data_after, version, style_after, drawn_after, flights, jobs, numbers, asks_made, done_asks, stored_drawings, shown, waiting, open_asks, is_ended_after, replies_to, is_touched_after}
 use Rattle.farm_history.specs.Rules.{ReadFits, ShownFits, look_at as look_of, look_rule, Fits}
@@ -260,9 +260,6 @@ looked_is p g k (Some before) = go (is_touched_after p g (length before) k)
     go false = refl
 
 -- a look is answered by the mark
-pub look_step : {D : Type 0} (state : D → Outside StoreTold) (told : Bool) (farm : FarmSeen D) (g : List Entry) (spot : Spot) → StandsFor state told farm g → StandsFor state told (record farm { counts = one_turn_more farm.counts }) (Look spot (look_at farm spot) ∷ g)
-unfolding Fits
-look_step state told farm g spot s = idle_step state told farm g (Look spot (look_at farm spot)) refl is s
-  where
-    is : look_at farm spot ≡ look_rule (plan_of farm.plan) g spot
-    is = ap (λ x. cond (is_servable (plan_of farm.plan) spot) x Looked.Unservable) (ap looked_by (s.marks_are (key_of spot)) ∙ looked_is (plan_of farm.plan) g (key_of spot) (shown g (key_of spot)))
+pub look_is : {D : Type 0} (state : D → Outside StoreTold) (told : Bool) (farm : FarmSeen D) (g : List Entry) (spot : Spot) → StandsFor state told farm g → look_at farm spot ≡ look_rule (plan_of farm.plan) g spot
+look_is state told farm g spot s =
+    ap (λ x. cond (is_servable (plan_of farm.plan) spot) x Looked.Unservable) (ap looked_by (s.marks_are (key_of spot)) ∙ looked_is (plan_of farm.plan) g (key_of spot) (shown g (key_of spot)))

@@ -5,7 +5,7 @@ use Rattle.tile_store.specs.Stores.{StoreTold}
 use Rattle.farm_history.specs.declared.queues.Conn.{Conn}
 use Rattle.farm_history.specs.declared.queues.Reply.{Reply}
 use Rattle.farm_history.specs.declared.answers.Collected.{Collected}
-use Rattle.farm_history.specs.Entries.{Entry, Collect, Leave, Stop, Tally}
+use Rattle.farm_history.specs.Entries.{Entry, Collect, Leave, Stop}
 use Rattle.farm_history.specs.Lists.{Each, Differ, without_first}
 use Rattle.farm_history.specs.Past.{is_stopped, data_after, style_after, flights, jobs, numbers, asks_made, done_asks, stored_drawings, shown, waiting, open_asks, is_ended_after, replies_to, totals}
 use Rattle.farm_history.specs.Rules.{collect_from, collect_rule, Fits}
@@ -116,9 +116,6 @@ stop_step state told farm g s =
     quiet state told farm g Stop (stopped_counts farm.counts) farm.queues farm.store s (quiet_stop farm.plan g) tt (counts_stop farm.counts g s.counts_are)
     (queues_quiet farm.plan farm.queues g Stop refl refl refl refl s.queues_are) (store_quiet farm.plan (state farm.first).faults told g Stop (state farm.store) refl (λ k. refl) s.store_is)
 
-pub tally_step : {D : Type 0} (state : D → Outside StoreTold) (told : Bool) (farm : FarmSeen D) (g : List Entry) → StandsFor state told farm g → StandsFor state told (record farm { counts = one_turn_more farm.counts }) (Tally (tally_of farm.counts) ∷ g)
-unfolding Fits
-tally_step state told farm g s = idle_step state told farm g (Tally (tally_of farm.counts)) refl is s
-  where
-    is : tally_of farm.counts ≡ totals g
-    is = λ i. record { asks = s.counts_are.asks_are i; done = s.counts_are.done_are i; stored = s.counts_are.stored_are i; version = s.counts_are.version_is i }
+-- a tally is answered by the counts
+pub tally_is : {D : Type 0} (state : D → Outside StoreTold) (told : Bool) (farm : FarmSeen D) (g : List Entry) → StandsFor state told farm g → tally_of farm.counts ≡ totals g
+tally_is state told farm g s = λ i. record { asks = s.counts_are.asks_are i; done = s.counts_are.done_are i; stored = s.counts_are.stored_are i; version = s.counts_are.version_is i }

@@ -5,7 +5,7 @@
 //!
 //! What is proved: What it means that a farm stands for a history (`StandsFor`): its counts, data, styles, drawings
 //! under way, marks and queues are those of the history, and its store has counted and holds what the history tells.
-//! Lemmas alone, which the contracts of calls rest on: each of the thirteen events goes on from it, a started farm
+//! Lemmas alone, which the contracts of calls rest on: each event goes on from it, a started farm
 //! stands for nothing, a put beside the metatiles is no event, a replay is stood for piece by piece.
 #![tactic(auto)]
 

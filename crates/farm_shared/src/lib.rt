@@ -2,7 +2,7 @@
 //! which all of its own entries stand. The events of a farm, each of them a type: what it answers, its entry in the
 //! history, what it needs of the seat that it is taken on, what it promises, and its run on the farm.
 //!
-//! What is proved: `Event::run`, for each of the thirteen types and every store: on a farm that stands for what it began
+//! What is proved: `Event::run`, for each type and every store: on a farm that stands for what it began
 //! with and then a list of turns (`IsAfter`), at a seat where its need holds, it leaves one that stands for these turns
 //! and the event's entry, of that seat; what no event changes stays. The farm under the lock: each call is one turn with
 //! the farm's own entry and answer (`SharedFarm`, thirteen calls), and all that happened up to it is legal (`IsLegalSo`),

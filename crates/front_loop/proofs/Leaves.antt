@@ -1,12 +1,10 @@
 -- What is so of all that a front leaves: of which kinds its entries are, and where it ends worn; and that a front that was not begun leaves what it may.
-use Rattle.std.proofs.Common.{◌≡◌, ◌≢◌, ◌⊎◌, inl, inr, ℕ, Bool, true, false, not, ◌||◌, ◌==◌, cond, List, [], ◌∷◌, ◌++◌, Option, Some, None, IfSome, option_map, refl, sym, ◌∙◌, subst, arith, append-nil}
+use Rattle.std.proofs.Common.{◌≡◌, ◌≢◌, ◌⊎◌, inl, inr, ℕ, Bool, true, false, ◌==◌, cond, List, [], ◌∷◌, ◌++◌, Option, Some, None, IfSome, option_map, refl, sym, ◌∙◌, subst, append-nil}
 use Rattle.std.proofs.lemmas.Bool.{eq-eqb}
-use Rattle.std.proofs.lemmas.Bool.Decides.{nat_tests}
-use Rattle.std.specs.List.{list_any}
 use Rattle.farm_base.specs.Outside.{Outside}
 use Rattle.farm_history.specs.declared.queues.Reply.{Reply}
 use Rattle.farm_history.specs.declared.answers.Collected.TheVariants as collected
-use Rattle.farm_history.specs.Entries.{Entry, Claim, Collect, Finish, Leave, Stop}
+use Rattle.farm_history.specs.Entries.{Entry, Collect, Leave, Stop}
 use Rattle.farm_history.specs.Lists.{Each}
 use Rattle.reactor_ports.specs.declared.ends.FrontDone.{FrontDone}
 use Rattle.reactor_ports.specs.declared.ends.FrontEnd.{FrontEnd}
@@ -22,32 +20,6 @@ use Rattle.reactor_ports.specs.declared.events.PortEvent.TheVariants as event
 use Rattle.front_loop.specs.Kinds.{IsOfFront, AreOfFront, IsUnbegun}
 use Rattle.front_loop.specs.Leaves.{FrontLeaves, IsFront}
 use Rattle.farm_history.proofs.Lists.{each-join}
-
--- Which entries are of no front, as a test.
-
-abbrev pub is_foreign : ℕ → Entry → Bool
-is_foreign n (Claim worker answer) = true
-is_foreign n (Finish ticket drawn answer) = true
-is_foreign n Stop = not (n == 2)
-is_foreign n e = false
-
-of_front : (n : ℕ) (e : Entry) → is_foreign n e ≡ false → IsOfFront n e
-of_front n (Claim worker answer) is = cc
-of_front n (Finish ticket drawn answer) is = cc
-of_front n Stop is = two (n == 2) refl is
-  where
-    two : (b : Bool) → (n == 2) ≡ b → not b ≡ false → n ≡ 2
-    two true same is = grind (arith, nat_tests)
-    two false same is = cc
-of_front n e is = tt
-
-pub each_of_front : (n : ℕ) (es : List Entry) → list_any (is_foreign n) es ≡ false → Each (IsOfFront n) es
-each_of_front n [] none = tt
-each_of_front n (e ∷ es) none = go (is_foreign n e) refl (each_of_front n es) none
-  where
-    go : (b : Bool) → is_foreign n e ≡ b → (list_any (is_foreign n) es ≡ false → Each (IsOfFront n) es) → (b || list_any (is_foreign n) es) ≡ false → Each (IsOfFront n) (e ∷ es)
-    go true is rest none = cc
-    go false is rest none = (of_front n e is, rest none)
 
 -- What is so of every front.
 
@@ -180,7 +152,3 @@ module _ {A W : Type 0} (R : Rules A W) where
       go (inr a) =
           no_rounds shown es [] done worn a.0 (subst (λ end. EndHasCause R end [] [] worn) (sym a.1) (a.2, refl)) is.no_rests
           (λ broken. let never = sym a.1 ∙ broken in cc) is.none_starved
-
--- no entries are a front's
-pub alone : (n : ℕ) (es : List Entry) → es ≡ [] → Each (IsOfFront n) es
-alone n es is = subst (Each (IsOfFront n)) (sym is) tt
