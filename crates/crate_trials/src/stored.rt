@@ -95,7 +95,7 @@ impl<'a, R: Files<File = File> + Alloc> Trial<'a, R> {
     /// A part is no longer than a tile's text can be, whatever length a container tells.
     pub(crate) fn the_longest_part(&mut self, files: &mut FileStore<'_, R>) {
         let alloc = self.alloc;
-        let Ok(long) = vec![in alloc; 7; 786_448] else {
+        let Ok(long) = vec![in alloc; 7; 786_704] else {
             self.see(false, "memory", "");
             return;
         };

@@ -17,6 +17,6 @@ abbrev pub is_own_path : List ℕ → Bool
 is_own_path path = list_all is_part (slice_split (λ b. b == 47) path)
 
 -- the most bytes of a part: as many as the longest text of a tile has, a head of 15 bytes and 512
--- by 512 pixels of 3
+-- by 512 pixels of 3, and 256 for what is read with it
 abbrev pub most_part_bytes : ℕ
-most_part_bytes = 786447
+most_part_bytes = 786703

@@ -15,14 +15,14 @@ use crate::stores::{StoreFault, TileStore};
 use farm_base::{Gate, MOST_FILE_BYTES, read_to_end};
 use std::alloc::Global;
 use std::fs::{self, File, OpenFile};
-use std::io::{self, Read, Seek, SeekFrom, Write};
-use std::num::NonZeroU64;
+use std::io::{self, Write};
+use std::os::unix::fs::FileExt;
 use std::path::Path;
 use std::rt;
 
-/// The most bytes of a file's part: the longest text that a tile can have, of 512 by 512 pixels. So a wrong length that a
-/// container tells costs no more memory.
-pub const MOST_PART_BYTES: u32 = 786_447;
+/// The most bytes of a file's part: the longest text that a tile can have, of 512 by 512 pixels, and 256 for what is read
+/// with it. So a wrong length that a container tells costs no more memory.
+pub const MOST_PART_BYTES: u32 = 786_703;
 
 /// Files under the folder `tiles` of the folder that the program runs in. A put writes a file beside
 /// the one of its path, which has its name and `.new`, and renames it over that, so that a reader is not meant to
@@ -47,7 +47,7 @@ pub struct FileStore<'a, R> {
     folder: &'a Folder,
     lock: Option<File>,
     faults: u64,
-    begun: Option<Begun>,
+    begun: Option<Opened>,
 }
 
 /// A file that was opened, its name and its length.
@@ -56,14 +56,6 @@ struct Opened {
     name: String,
     file: File,
     length: u64,
-}
-
-/// The file whose beginning was read last, and how far it was read. One of which nothing was read is none: what is read from
-/// its beginning on is read anew.
-#[derive(Drop)]
-struct Begun {
-    file: Opened,
-    end: NonZeroU64,
 }
 
 impl<'a, R: rt::Files<File = File>> FileStore<'a, R> {
@@ -91,14 +83,14 @@ impl<'a, R: rt::Files<File = File>> FileStore<'a, R> {
         Ok(())
     }
 
-    // The file of this name: the one whose beginning was read last, where a part behind that is to be read of it.
+    // The file of this name: the one whose beginning was read last, where a part behind its first byte is to be read of it.
     fn opened(&mut self, name: String, offset: u64) -> Result<Option<Opened>, StoreFault>
         ensures faults { self.new.faults ≡ self.old.faults }
         ensures own { IfOk result
             (λ found. IfSome found (λ file. string_bytes file.name ≡ string_bytes name)) }
     {
         match self.begun.take() {
-            Some(Begun { file, end }) if end.get() <= offset && file.name == name => Ok(Some(file)),
+            Some(file) if offset > 0 && file.name == name => Ok(Some(file)),
             _ => open(&self.rt, name),
         }
     }
@@ -119,14 +111,12 @@ impl<'a, R: rt::Files<File = File>> FileStore<'a, R> {
     {
         let name = name_of(alloc, path)?;
         self.take_folder(alloc)?;
-        let Some(mut file) = self.opened(name, offset)? else {
+        let Some(file) = self.opened(name, offset)? else {
             return Ok(None);
         };
-        let bytes = part_of(alloc, &mut file, offset, len)?;
-        if offset == 0
-            && let Some(end) = NonZeroU64::new(bytes.len() as u64)
-        {
-            self.begun = Some(Begun { file, end });
+        let bytes = part_of(alloc, &file, offset, len)?;
+        if offset == 0 {
+            self.begun = Some(file);
         }
         Ok(Some(bytes))
     }
@@ -263,8 +253,8 @@ impl<'a, R: rt::Files<File = File>> TileStore for FileStore<'a, R> {
         self.counted(answer)
     }
 
-    /// A part of the path's file, however long the file is; Failed also where the part has more bytes than a tile's text
-    /// can have, and for a path that is not taken.
+    /// A part of the path's file, however long the file is; Failed also where the part has more than `MOST_PART_BYTES`, and
+    /// for a path that is not taken.
     fn get_part(
         &mut self,
         alloc: Global,
@@ -426,10 +416,10 @@ fn open<R: rt::Files<File = File>>(files: &R, name: String) -> Result<Option<Ope
     Ok(Some(Opened { name, file, length }))
 }
 
-// The bytes of the file from the offset on, at most `len` of them; Failed where they are more than a tile's text can have.
+// The bytes of the file from the offset on, at most `len` of them; Failed where they are more than a part may have.
 // How many there are is known since it was
 // opened, so that they are read at once, into a vector that does not grow.
-fn part_of(alloc: Global, opened: &mut Opened, offset: u64, len: u32) -> Result<Vec<u8>, StoreFault>
+fn part_of(alloc: Global, opened: &Opened, offset: u64, len: u32) -> Result<Vec<u8>, StoreFault>
     ensures short { IfOk result (λ v. length v.items ≤ len) }
     ensures at_most { IfOk result (λ v. length v.items ≤ most_part_bytes) }
 {
@@ -438,10 +428,6 @@ fn part_of(alloc: Global, opened: &mut Opened, offset: u64, len: u32) -> Result<
         return Err(StoreFault::Failed);
     }
     let mut bytes = vec![in alloc; 0; room as usize]?;
-    if room > 0 {
-        let file = &mut opened.file;
-        file.seek(SeekFrom::Start(offset))?;
-        file.read_exact(bytes.as_mut_slice())?;
-    }
+    opened.file.read_exact_at(bytes.as_mut_slice(), offset)?;
     Ok(bytes)
 }
