@@ -52,19 +52,20 @@ fn is_passing(error: &io::Error) -> bool {
 }
 
 impl Link {
-    /// A connection of this number whose readiness to read is asked for.
+    /// A connection of this number whose readiness to read is asked for, and which is to be queued: what a peer asks has
+    /// mostly come by the time that its connection is accepted, so that it is looked for before the system says so.
     pub(crate) fn new(conn: u32, mut stream: Stream, registry: &Registry) -> io::Result<Link> {
         stream.register(registry, Token(conn as usize))?;
         Ok(Link {
             conn,
             stream,
             ended: false,
-            readable: false,
+            readable: true,
             closing: false,
             short: false,
             writable: false,
             asks: false,
-            queued: false,
+            queued: true,
         })
     }
 

@@ -252,6 +252,7 @@ impl<R: Net + rt::Files> SocketPorts<R> {
         match listener.accept() {
             Ok(stream) => {
                 let link = Link::new(conn, stream, watch.poll.registry()).ok()?;
+                self.queue.push_back(conn).ok()?;
                 self.links.push(link).ok()?;
                 self.opened = self.opened.saturating_add(1);
                 Some(PortEvent::Opened(conn))
