@@ -24,3 +24,7 @@ Becomes shows R old new = (start : _) (bits : Bits) → shows start old bits
 abbrev pub Marks : {S : Type 0} → (S → S → Bits → Type 0) → (Point → Bool) → Window → S → S → Type 0
 Marks shows member w old new = Becomes shows
     (λ bits next. next ≡ record bits { bits = marked member (centres w) bits.bits }) old new
+
+-- whatever bits the surface shows, they are as R says
+abbrev pub Knows : {S : Type 0} → (S → S → Bits → Type 0) → (Bits → Type 0) → S → Type 0
+Knows shows R now = (start : _) (bits : Bits) → shows start now bits → R bits

@@ -1,8 +1,8 @@
 //! What pixels are covered on, run by run.
-ghost use Rattle.std.specs.Prelude.{◌≡◌, ℕ, ◌+◌, ◌-◌, ◌*◌, ◌<◌, ◌≤◌, true};
+ghost use Rattle.std.specs.Prelude.{◌≡◌, ℕ, ◌+◌, ◌-◌, ◌*◌, ◌<◌, ◌≤◌, true, false, slice_index_or};
 ghost use Rattle.plain_shapes.specs.Images.{Bits};
 ghost use Rattle.plain_image.specs.Runs.{run_changed};
-ghost use Rattle.plain_image.specs.Surfaces.{Becomes};
+ghost use Rattle.plain_image.specs.Surfaces.{Becomes, Knows};
 
 use crate::Mask;
 
@@ -28,6 +28,13 @@ pub trait Surface {
         }) self.old self.new }
         ensures cols { cols self.new ≡ cols self.old }
         ensures rows { rows self.new ≡ rows self.old };
+
+    /// Some columns of row `j` whose pixels are covered already: from the first number on and before the second one. None
+    /// may be known.
+    fn known(&self, j: u32) -> (u32, u32)
+        requires row { j < rows self.now }
+        ensures covered { Knows shows (λ bits. (i : ℕ) → i < cols self.now → result.0 ≤ i → i < result.1
+            → slice_index_or bits.bits (j * cols self.now + i) false ≡ true) self.now };
 }
 
 impl Surface for Mask {
@@ -43,5 +50,9 @@ impl Surface for Mask {
         for i in from..end {
             self.set(i, j);
         }
+    }
+
+    fn known(&self, _j: u32) -> (u32, u32) {
+        (0, 0)
     }
 }

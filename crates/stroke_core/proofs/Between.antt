@@ -6,12 +6,12 @@ use Rattle.plain_world.specs.declared.world.Point.{Point}
 use Rattle.plain_shapes.specs.Strokes.{is_same, is_near, in_body}
 use Rattle.centre_spans.specs.declared.shapes.Stretch.{Stretch}
 use Rattle.centre_spans.specs.declared.stretches.Growing.{Growing}
-use Rattle.centre_spans.specs.Stretches.{InStretch, in_stretch}
+use Rattle.centre_spans.specs.Stretches.{InStretch, in_stretch, gap}
 use Rattle.stroke_core.specs.declared.segments.Segment.{Segment}
 use Rattle.stroke_core.specs.inner.Segments.{IsSegment}
 use Rattle.stroke_core.proofs.Products.{along_is, long_is}
 use Rattle.stroke_core.proofs.Testing.{body_is}
-use Rattle.stroke_core.proofs.Boxes.{gap, along_plus, along_minus, beside_plus, beside_minus, long_square}
+use Rattle.stroke_core.proofs.Boxes.{along_plus, along_minus, beside_plus, beside_minus, long_square}
 use Rattle.stroke_core.proofs.Rowwise.{at, raised_at, near_row}
 
 pub in_it : (s : Stretch) (v : ℕ) → in_stretch s v ≡ true → InStretch s v

@@ -6,13 +6,10 @@ use Rattle.std.proofs.lemmas.Bool.{cases_lt, leb-true, and_parts, and_cases, eqb
 use Rattle.plain_world.specs.declared.world.Point.{Point}
 use Rattle.plain_shapes.specs.Strokes.{is_same, is_near, in_body, in_disk, before_start, past_end, in_block}
 use Rattle.plain_shapes.proofs.Signs.{root_le, square_below}
+use Rattle.centre_spans.specs.Stretches.{gap}
 use Rattle.centre_spans.proofs.Quotients.{cancel}
 use Rattle.stroke_core.proofs.Products.{along_is, beside_is, long_is}
 use Rattle.stroke_core.proofs.Testing.{near_is, body_is, start_is, end_is, disk_is, block_is}
-
--- how far two numbers are apart
-abbrev pub gap : ℕ → ℕ → ℕ
-gap m n = m - n + (n - m)
 
 abbrev pub along_plus : Point → Point → Point → ℕ
 along_plus a b c = c.x * b.x + a.x * a.x + c.y * b.y + a.y * a.y
@@ -32,7 +29,7 @@ long_square a b = gap b.x a.x * gap b.x a.x + gap b.y a.y * gap b.y a.y
 gap_cases : (m n d : ℕ) → d ≡ gap m n → (m ≡ n + d) ⊎ (n ≡ m + d)
 gap_cases m n d e = elim (cases_lt m n) [ inl h ↦ inr (omega arith) | inr h ↦ inl (omega arith) ]
 
-gap_square : (m n d : ℕ) → d ≡ gap m n → d * d + (m * n + n * m) ≡ m * m + n * n
+pub gap_square : (m n d : ℕ) → d ≡ gap m n → d * d + (m * n + n * m) ≡ m * m + n * n
 gap_square m n d e = elim (gap_cases m n d e) [
   | inl h ↦ (let p = ap (λ t. t * n) h in let q = ap (λ t. n * t) h in let r = ap (λ t. t * t) h in omega arith)
   | inr h ↦ (let p = ap (λ t. t * m) h in let q = ap (λ t. m * t) h in let r = ap (λ t. t * t) h in omega arith)
@@ -103,7 +100,7 @@ cap_box : (l h cx ex du dy A B C D : ℕ) → 1 ≤ l → l * cx + A + C ≡ l *
 cap_box l h cx ex du dy A B C D some id up down out in_ small small' =
     (cancel ex (cx + (h + h)) l some (omega arith), cancel cx (ex + (h + h)) l some (omega arith))
 
-some_long : (a b : Point) → is_same a b ≡ false → 1 ≤ long_square a b
+pub some_long : (a b : Point) → is_same a b ≡ false → 1 ≤ long_square a b
 some_long a b ne = elim (and_cases (a.x == b.x) (a.y == b.y) ne) [
   | inl e ↦ (let g : 1 ≤ gap b.x a.x = some_gap a.x b.x (eqb-false a.x b.x e) in omega (arith, some_square (gap b.x a.x) g))
   | inr e ↦ (let g : 1 ≤ gap b.y a.y = some_gap a.y b.y (eqb-false a.y b.y e) in omega (arith, some_square (gap b.y a.y) g))
@@ -113,7 +110,7 @@ some_long a b ne = elim (and_cases (a.x == b.x) (a.y == b.y) ne) [
     some_gap m n e = omega arith
 
 -- what a near point's numbers keep
-near_within : (half : ℕ) (a b c : Point) → is_near half a b c ≡ true
+pub near_within : (half : ℕ) (a b c : Point) → is_near half a b c ≡ true
     → gap (beside_plus a b c) (beside_minus a b c) * gap (beside_plus a b c) (beside_minus a b c) ≤ half * half * long_square a b
 near_within half a b c h =
     let d : ℕ = gap (beside_plus a b c) (beside_minus a b c) in
@@ -121,7 +118,7 @@ near_within half a b c h =
     (near_is half a b c (beside_plus a b c) (beside_minus a b c) d (long_square a b) (half * half * long_square a b)
     (beside_is a b c (beside_plus a b c) (beside_minus a b c) refl refl) refl (long_is a b (gap b.x a.x) (gap b.y a.y) (long_square a b) refl refl refl) refl ∙ h)
 
-long_expands : (a b : Point) → long_square a b + (b.x * a.x + a.x * b.x + (b.y * a.y + a.y * b.y)) ≡ b.x * b.x + a.x * a.x + (b.y * b.y + a.y * a.y)
+pub long_expands : (a b : Point) → long_square a b + (b.x * a.x + a.x * b.x + (b.y * a.y + a.y * b.y)) ≡ b.x * b.x + a.x * a.x + (b.y * b.y + a.y * a.y)
 long_expands a b = omega (arith, gap_square b.x a.x (gap b.x a.x) refl, gap_square b.y a.y (gap b.y a.y) refl)
 
 -- the numbers of a direction and of the other one

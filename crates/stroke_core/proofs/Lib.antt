@@ -5,3 +5,4 @@ pub mod Spans
 pub mod Rowwise
 pub mod Sides
 pub mod Between
+pub mod Rounds

@@ -11,7 +11,8 @@ use Rattle.stroke_core.specs.declared.segments.Segment.{Segment}
 use Rattle.stroke_core.specs.inner.Segments.{IsSegment}
 use Rattle.stroke_core.proofs.Products.{along_is, beside_is}
 use Rattle.stroke_core.proofs.Testing.{near_is, body_is, start_is, end_is, disk_is, block_is}
-use Rattle.stroke_core.proofs.Boxes.{gap, along_plus, along_minus, beside_plus, beside_minus}
+use Rattle.centre_spans.specs.Stretches.{gap}
+use Rattle.stroke_core.proofs.Boxes.{along_plus, along_minus, beside_plus, beside_minus}
 
 -- a number that grows evenly, at a place
 abbrev pub at : Growing → ℕ → ℕ

@@ -1,17 +1,19 @@
 //! Strokes of lines.
-ghost use Rattle.std.specs.Prelude.{◌≡◌, ◌≤◌, ◌<◌, ◌^◌, not, ◌&&◌, ◌||◌, length, All, OnOk, OnErr};
-ghost use Rattle.plain_world.specs.World.{InWorld, IsWindow};
+ghost use Rattle.std.specs.Prelude.{◌≡◌, ◌≤◌, ◌<◌, ◌^◌, ℕ, true, not, ◌&&◌, ◌||◌, length, All, OnOk, OnErr};
+ghost use Rattle.plain_world.specs.World.{InWorld, IsWindow, centre};
 ghost use Rattle.plain_shapes.specs.inner.Canvas.{SetsSome};
 ghost use Rattle.plain_shapes.specs.Strokes.{is_same, in_body, before_start, past_end, on_sides, on_disks, on_dot, on_line, on_stroke};
 ghost use Rattle.plain_image.specs.Surfaces.{Becomes, Marks};
-ghost use Rattle.stroke_core.specs.inner.Parts.{on_ends, on_long, on_parts};
+ghost use Rattle.centre_spans.specs.Stretches.{InStretch};
+ghost use Rattle.stroke_core.specs.inner.Parts.{on_part, on_ends, on_long, on_parts};
 
-use crate::bodies::{Body, heights_between};
+use crate::bodies::{Body, between, heights_between};
 use crate::caps::{EndCap, StartCap};
 use crate::disks::{Block, Disk};
 use crate::kept::kept;
+use crate::numbers::{long, square};
 use crate::segments::segment_of;
-use centre_spans::{mark, mark_within};
+use centre_spans::{Round, Stretch, is_known, mark, mark_within};
 use farm_base::NoMemory;
 use plain_image::Surface;
 use plain_shapes::{LineCap, Path};
@@ -68,8 +70,90 @@ fn mark_end<K: Surface>(half: u32, a: Point, b: Point, w: Window, mask: &mut K)
     mark(&EndCap { of }, w, mask);
 }
 
-/// Covers the pixels of the bodies of the segments from `first` along the points, and of the disks at these points. A
-/// disk is covered right after the body that it lies on, so that what a surface keeps of that one may serve it.
+// Whether a stretch ends before `start` or begins behind `end`.
+fn misses(of: Stretch, start: u32, end: u32) -> bool
+    ensures { result ≡ true → (v : ℕ) → start ≤ v → v ≤ end → InStretch of v → ⊥ }
+{
+    of.end <= u64::from(start) || u64::from(end) < of.start
+}
+
+// Whether the body of the segment from `a` to `b` and the disk at `b` lie beside the window.
+fn is_off(half: u32, a: Point, b: Point, w: Window) -> bool
+    requires half { half ≤ 2 ^ 31 }
+    requires window { IsWindow w }
+    ensures { result ≡ true → (j i : ℕ) → i < w.cols → j < w.rows → on_part half a b (centre w i j) ≡ true → ⊥ }
+{
+    let across = between(a.x, b.x, u64::from(half));
+    let down = between(a.y, b.y, u64::from(half));
+    misses(across, w.west, w.west + w.cols * w.pixel)
+        || misses(down, w.north, w.north + w.rows * w.pixel)
+}
+
+// Whether the pixels of the body of the segment from `a` to `b` and of the disk at `b` are known to be covered. Both
+// lie in a disk that is hardly wider than this one, where the segment is short.
+fn is_part_known<K: Surface>(half: u32, a: Point, b: Point, w: Window, mask: &K) -> bool
+    requires half { half ≤ 2 ^ 31 }
+    requires a { InWorld a }
+    requires b { InWorld b }
+    requires window { IsWindow w }
+    requires cols { K.cols mask.now ≡ w.cols }
+    requires rows { K.rows mask.now ≡ w.rows }
+    ensures { result ≡ true → Marks K.shows (on_part half a b) w mask.now mask.now }
+{
+    let square = square(u64::from(half)) + long(a, b);
+    let down = between(a.y, b.y, u64::from(half));
+    is_known(Round { p: b, square }, down, w, mask)
+}
+
+// Covers the pixels of the body of a short segment from `a` to `b` and of the disk at `b`. Mostly they are covered
+// already, or they are once those of the disk are.
+fn mark_short<K: Surface>(half: u32, a: Point, b: Point, w: Window, mask: &mut K)
+    requires half { half ≤ 2 ^ 31 }
+    requires a { InWorld a }
+    requires b { InWorld b }
+    requires window { IsWindow w }
+    requires cols { K.cols mask.old ≡ w.cols }
+    requires rows { K.rows mask.old ≡ w.rows }
+    ensures marks { Marks K.shows (on_part half a b) w mask.old mask.new }
+    ensures cols { K.cols mask.new ≡ K.cols mask.old }
+    ensures rows { K.rows mask.new ≡ K.rows mask.old }
+{
+    if is_part_known(half, a, b, w, mask) {
+        return;
+    }
+    mark(&Disk { half, p: b }, w, mask);
+    if is_part_known(half, a, b, w, mask) {
+        return;
+    }
+    mark_body(half, a, b, w, mask);
+}
+
+// Covers the pixels of the body of the segment from `a` to `b` and of the disk at `b`. A disk is covered right after the
+// body that it lies on, so that what a surface keeps of that one may serve it; but of a segment shorter than a pixel
+// before it.
+fn mark_part<K: Surface>(half: u32, a: Point, b: Point, w: Window, mask: &mut K)
+    requires half { half ≤ 2 ^ 31 }
+    requires a { InWorld a }
+    requires b { InWorld b }
+    requires window { IsWindow w }
+    requires cols { K.cols mask.old ≡ w.cols }
+    requires rows { K.rows mask.old ≡ w.rows }
+    ensures marks { Marks K.shows (on_part half a b) w mask.old mask.new }
+    ensures cols { K.cols mask.new ≡ K.cols mask.old }
+    ensures rows { K.rows mask.new ≡ K.rows mask.old }
+{
+    if is_off(half, a, b, w) {
+        return;
+    }
+    if long(a, b) < square(u64::from(w.pixel)) {
+        mark_short(half, a, b, w, mask);
+        return;
+    }
+    mark_body(half, a, b, w, mask);
+    mark(&Disk { half, p: b }, w, mask);
+}
+
+/// Covers the pixels of the bodies of the segments from `first` along the points, and of the disks at these points.
 pub fn mark_rounded<K: Surface>(half: u32, first: Point, rest: &[Point], w: Window, mask: &mut K)
     requires half { half ≤ 2 ^ 31 }
     requires first { InWorld first }
@@ -83,8 +167,7 @@ pub fn mark_rounded<K: Surface>(half: u32, first: Point, rest: &[Point], w: Wind
 {
     let mut before = first;
     for p in rest {
-        mark_body(half, before, *p, w, mask);
-        mark(&Disk { half, p: *p }, w, mask);
+        mark_part(half, before, *p, w, mask);
         before = *p;
     }
 }

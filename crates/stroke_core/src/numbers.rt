@@ -112,7 +112,8 @@ pub fn long(a: Point, b: Point) -> u64
     square(x) + square(y)
 }
 
-fn square(n: u64) -> u64
+/// A number times itself.
+pub fn square(n: u64) -> u64
     requires { n ≤ 2 ^ 31 }
     ensures value { result ≡ n * n }
     ensures small { n ≤ 2 ^ 30 → result ≤ 2 ^ 60 }

@@ -34,4 +34,8 @@ impl<'a> Surface for Brush<'a> {
             );
         }
     }
+
+    fn known(&self, _j: u32) -> (u32, u32) {
+        (0, 0)
+    }
 }

@@ -230,6 +230,18 @@ impl Surface for Pieces {
             }
         }
     }
+
+    fn known(&self, j: u32) -> (u32, u32) {
+        let at = self.latest[j as usize % LATEST] as usize;
+        if self.is_short || at >= self.list.len() {
+            return (0, 0);
+        }
+        let piece = self.list[at];
+        if row_of(piece) != j {
+            return (0, 0);
+        }
+        (start_of(piece), piece.end)
+    }
 }
 
 /// All that is covered, in order and joined; refused where memory was wanting.

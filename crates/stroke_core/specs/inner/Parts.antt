@@ -3,11 +3,15 @@ use Rattle.std.specs.Prelude.{ℕ, ◌-◌, Bool, false, not, ◌&&◌, ◌||◌
 use Rattle.plain_world.specs.declared.world.Point.{Point}
 use Rattle.plain_shapes.specs.declared.shapes.LineCap.{LineCap}
 use Rattle.plain_shapes.specs.declared.shapes.LineCap.TheVariants as with
-use Rattle.plain_shapes.specs.Strokes.{is_same, in_disk, before_start, past_end, on_sides, on_disks, on_dot}
+use Rattle.plain_shapes.specs.Strokes.{is_same, in_body, in_disk, before_start, past_end, on_sides, on_disks, on_dot}
 
 -- the point at a place of a list that has it
 abbrev pub point_at : List Point → ℕ → Point
 point_at ps k = slice_index_or ps k (record { x = 0; y = 0 })
+
+-- the body of the segment from a to b, which has to have some length, or the disk at b
+abbrev pub on_part : ℕ → Point → Point → Point → Bool
+on_part half a b c = (not (is_same a b) && in_body half a b c) || in_disk half b c
 
 -- the caps of a line that begins with the segment from a to b and ends with the one from y to z
 abbrev pub on_ends : ℕ → LineCap → Point → Point → Point → Point → Point → Bool

@@ -1,6 +1,6 @@
 use Rattle.std.proofs.Common.{◌||◌, refl, ◌∙◌}
 use Rattle.plain_shapes.specs.Strokes.{on_sides, on_disks}
-use Rattle.plain_image.proofs.Marking.{marks_both, remains_start, remains_more, remains_end}
+use Rattle.plain_image.proofs.Marking.{remains_start, remains_more, remains_end}
 use Rattle.stroke_core.proofs.Sides.{rounded_step, rounded_none}
 use Rattle.stroke_core.proofs.lines.mark_rounded.Goals as goal
 
@@ -15,11 +15,11 @@ loop-p-init g c = record {
 pub loop-p-preserved : goal.loop-p-preserved
 loop-p-preserved g c = record {
   within = c.requires.rest c.loop-p.p-index _ c.loop-p-test.true;
-  left = remains_more g.K.Surface.shows _ _ _ _ c.args.w c.args.mask.now c.loop-p.mask c.mark.new.mask
+  left = remains_more g.K.Surface.shows _ _ _ _ c.args.w c.args.mask.now c.loop-p.mask c.mark_part.new.mask
       (rounded_step c.args.half c.loop-p.before c.args.rest.now c.loop-p.p-index _ c.loop-p-test.true)
-      (marks_both g.K.Surface.shows _ _ c.args.w c.loop-p.mask c.mark_body.new.mask c.mark.new.mask c.mark_body.ensures.marks c.mark.ensures.marks) c.loop-p.invariant.left;
-  cols = c.mark.ensures.cols ∙ c.mark_body.ensures.cols ∙ c.loop-p.invariant.cols;
-  rows = c.mark.ensures.rows ∙ c.mark_body.ensures.rows ∙ c.loop-p.invariant.rows;
+      c.mark_part.ensures.marks c.loop-p.invariant.left;
+  cols = c.mark_part.ensures.cols ∙ c.loop-p.invariant.cols;
+  rows = c.mark_part.ensures.rows ∙ c.loop-p.invariant.rows;
 }
 
 pub returns-clause-marks : goal.returns-clause-marks
