@@ -1,30 +1,25 @@
 //! The heads of answers.
-ghost use Rattle.std.specs.Prelude.{◌≡◌, ◌++◌, OnOk};
+ghost use Rattle.std.specs.Prelude.{◌≡◌, ◌++◌, OnOk, IfOk, codes, string_bytes};
 ghost use Rattle.tile_front.specs.Answers as spec;
 
-use farm_base::NoMemory;
+use farm_base::{Bytes, NoMemory};
 use std::alloc::Global;
 
-// An answer of this status: its head, with more lines that may be none, and its body.
+// The head of an answer of this status, with more lines that may be none, before a body of so many bytes.
 #[tactic(auto, unfolding(crate::specs::Answers::response_head))]
-fn put_answer(
+fn answer_head(
     alloc: Global,
     status: &str,
     kind: &str,
     more: &str,
-    body: &[u8],
-    response: &mut Vec<u8>,
-) -> Result<(), NoMemory>
-    ensures { OnOk result (response.new.items
-        ≡ response.old.items ++ spec.answer status.now kind.now more.now body.now) }
+    len: usize,
+) -> Result<String, NoMemory>
+    ensures { IfOk result
+        (λ t. string_bytes t ≡ spec.response_head status.now kind.now len more.now) }
 {
-    let len = body.len();
-    let head = format!(in alloc;
+    Ok(format!(in alloc;
         "HTTP/1.1 {status}\r\nContent-Type: {kind}\r\nContent-Length: {len}\r\n{more}Connection: close\r\n\r\n"
-    )?;
-    response.extend_from_slice(head.as_str().as_bytes())?;
-    response.extend_from_slice(body)?;
-    Ok(())
+    )?)
 }
 
 /// An answer of this status, whose body is a text.
@@ -38,28 +33,36 @@ pub(crate) fn put_text(
     ensures { OnOk result
         (response.new.items ≡ response.old.items ++ spec.text_answer status.now body.now) }
 {
-    put_answer(alloc, status, "text/plain", "", body.as_bytes(), response)
+    let head = answer_head(alloc, status, "text/plain", "", body.len())?;
+    response.extend_from_slice(head.as_str().as_bytes())?;
+    response.extend_from_slice(body.as_bytes())?;
+    Ok(())
 }
 
-/// An answer with a picture, `clean` or `dirty`, of a data version.
+// The head of an answer with a picture of so many bytes.
 #[tactic(auto, unfolding(crate::specs::Answers::tile_lines))]
+fn picture_head(alloc: Global, word: &str, version: u64, len: usize) -> Result<String, NoMemory>
+    ensures { IfOk result (λ t. string_bytes t
+        ≡ spec.response_head (codes "200 OK") (codes "image/x-portable-pixmap") len
+        (spec.tile_lines word.now version)) }
+{
+    let lines = format!(in alloc; "X-Tile: {word}\r\nX-Version: {version}\r\n")?;
+    let kind = "image/x-portable-pixmap";
+    answer_head(alloc, "200 OK", kind, lines.as_str(), len)
+}
+
+/// An answer with a picture, `clean` or `dirty`, of a data version. Where its head is as long as the room that a fetch leaves
+/// before the picture (`farm_core`), the picture is not copied.
 pub(crate) fn put_picture(
     alloc: Global,
     word: &str,
     version: u64,
-    picture: &[u8],
+    picture: Bytes,
     response: &mut Vec<u8>,
 ) -> Result<(), NoMemory>
     ensures { OnOk result (response.new.items
-        ≡ response.old.items ++ spec.picture_answer word.now version picture.now) }
+        ≡ response.old.items ++ spec.picture_answer word.now version picture) }
 {
-    let lines = format!(in alloc; "X-Tile: {word}\r\nX-Version: {version}\r\n")?;
-    put_answer(
-        alloc,
-        "200 OK",
-        "image/x-portable-pixmap",
-        lines.as_str(),
-        picture,
-        response,
-    )
+    let head = picture_head(alloc, word, version, picture.as_slice().len())?;
+    picture.put_with_head(head.as_str().as_bytes(), response)
 }

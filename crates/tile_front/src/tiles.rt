@@ -10,16 +10,15 @@ use std::alloc::Global;
 
 /// Puts the answer to a tile by what was fetched: 200 with the picture, 404 where it is missing or not
 /// servable, 500 where it could not be read, and nothing where there was no memory for it.
-pub fn put_tile(alloc: Global, fetched: &Fetched, response: &mut Vec<u8>) -> Result<(), NoMemory>
-    ensures { OnOk result
-        (response.new.items ≡ response.old.items ++ spec.tile_answer fetched.now) }
+pub fn put_tile(alloc: Global, fetched: Fetched, response: &mut Vec<u8>) -> Result<(), NoMemory>
+    ensures { OnOk result (response.new.items ≡ response.old.items ++ spec.tile_answer fetched) }
 {
     match fetched {
         Fetched::Clean(version, picture) => {
-            put_picture(alloc, "clean", *version, picture.as_slice(), response)
+            put_picture(alloc, "clean", version, picture, response)
         }
         Fetched::Dirty(version, picture) => {
-            put_picture(alloc, "dirty", *version, picture.as_slice(), response)
+            put_picture(alloc, "dirty", version, picture, response)
         }
         Fetched::Missing => put_fault(alloc, Fault::NotFound, response),
         Fetched::Unservable => put_fault(alloc, Fault::NotFound, response),
