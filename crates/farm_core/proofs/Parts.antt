@@ -13,7 +13,7 @@ use Rattle.tile_store.specs.declared.stores.StoreFault.{StoreFault}
 use Rattle.tile_store.specs.declared.stores.StoreFault.TheVariants.{Failed, NoMemory}
 use Rattle.tile_store.specs.Stores.{StoreTold, Gets, part}
 use Rattle.farm_refinement.specs.Reads.{IsTilePart, IsSpoilt, SpoiltBy, ReadsTile}
-use Rattle.farm_core.specs.inner.Effects.{GetsPart, refused_by}
+use Rattle.farm_core.specs.inner.Effects.{refused_by}
 
 -- what a read gave of what is held
 record Held (content : Option (List ℕ)) (f : List ℕ → List ℕ) (x : List ℕ) : Type 0 where
@@ -69,31 +69,22 @@ pub read_as : (o : Option StoreTold) (view : List ℕ → List ℕ) (path : List
     IfSome o (λ t. option_map (λ (x : Vec ℕ Global). x.items) found ≡ option_map view (t.content path)) → IfSome o (λ t. Some v.items ≡ option_map view (t.content path))
 read_as o view path found v is h = subst (λ (f : Option (Vec ℕ Global)). IfSome o (λ t. option_map (λ (x : Vec ℕ Global). x.items) f ≡ option_map view (t.content path))) is h
 
+pub short_as : (len : ℕ) (found : Option (Vec ℕ Global)) (v : Vec ℕ Global) → found ≡ Some v → IfSome found (λ (x : Vec ℕ Global). length x.items ≤ len) → length v.items ≤ len
+short_as len found v is h = subst (λ (f : Option (Vec ℕ Global)). IfSome f (λ (x : Vec ℕ Global). length x.items ≤ len)) is h
+
 -- the bytes behind the room of a part that was read with room before it
-behind_room : (held part_read : List ℕ) (offset size room : ℕ) → room ≤ offset → part_read ≡ part (offset - room) (room + size) held
-    → drop (min room (length part_read)) part_read ≡ part offset size held
-behind_room held part_read offset size room fits is =
-    drop_min room part_read ∙ ap (drop room) is ∙ drop-take room size (drop (offset - room) held)
+behind_room : (held piece : List ℕ) (offset size room : ℕ) → room ≤ offset → piece ≡ part (offset - room) (room + size) held
+    → drop (min room (length piece)) piece ≡ part offset size held
+behind_room held piece offset size room fits is =
+    drop_min room piece ∙ ap (drop room) is ∙ drop-take room size (drop (offset - room) held)
     ∙ ap (take size) (drop-drop room (offset - room) held ∙ ap (λ n. drop n held) (omega (arith, fits)))
 
-pub read_behind : (o : Option StoreTold) (path part_read : List ℕ) (offset size room : ℕ) → room ≤ offset → IfSome o (λ t. Some part_read ≡ option_map (part (offset - room) (room + size)) (t.content path))
-    → IfSome o (λ t. Some (drop (min room (length part_read)) part_read) ≡ option_map (part offset size) (t.content path))
-read_behind None path part_read offset size room fits is = tt
-read_behind (Some t) path part_read offset size room fits is =
-    let r = held_by (t.content path) (part (offset - room) (room + size)) part_read is in
-    ap Some (behind_room r.held part_read offset size room fits r.is) ∙ ap (option_map (part offset size)) (sym r.is_held)
-
--- the same of a part that is seen as its bytes, and of how many they are
-pub part_as : (o : Option StoreTold) (view : List ℕ → List ℕ) (path : List ℕ) (found : Option (List ℕ)) (bytes : List ℕ) → found ≡ Some bytes → IfSome o (λ t. found ≡ option_map view (t.content path)) → IfSome o (λ t. Some bytes ≡ option_map view (t.content path))
-part_as o view path found bytes is h = subst (λ (f : Option (List ℕ)). IfSome o (λ t. f ≡ option_map view (t.content path))) is h
-
-pub short_as : (len : ℕ) (found : Option (List ℕ)) (bytes : List ℕ) → found ≡ Some bytes → IfSome found (λ (b : List ℕ). length b ≤ len) → length bytes ≤ len
-short_as len found bytes is h = subst (λ (f : Option (List ℕ)). IfSome f (λ (b : List ℕ). length b ≤ len)) is h
-
--- a part of which the store refused the read
-pub parts_refused : (offset len : ℕ) (old new : Outside StoreTold) (path : List ℕ) (m : Meta) (place : ℕ) (fault : StoreFault) → GetsPart offset len old new path (Err fault) → ReadsTile old new path m place (Err (refused_by fault))
-parts_refused offset len old new path m place Failed h = h
-parts_refused offset len old new path m place NoMemory h = h
+pub read_behind : (o : Option StoreTold) (path piece : List ℕ) (offset size room from : ℕ) → room ≤ offset → from ≡ offset - room → IfSome o (λ t. Some piece ≡ option_map (part from (room + size)) (t.content path))
+    → IfSome o (λ t. Some (drop (min room (length piece)) piece) ≡ option_map (part offset size) (t.content path))
+read_behind None path piece offset size room from fits begins is = tt
+read_behind (Some t) path piece offset size room from fits begins is =
+    let r = held_by (t.content path) (part from (room + size)) piece is in
+    ap Some (behind_room r.held piece offset size room fits (r.is ∙ ap (λ n. part n (room + size) r.held) begins)) ∙ ap (option_map (part offset size)) (sym r.is_held)
 
 -- a read that the store refused
 pub reads_refused : (view : List ℕ → List ℕ) (old new : Outside StoreTold) (path : List ℕ) (m : Meta) (place : ℕ) (fault : StoreFault) → Gets view old new path (Err fault) → ReadsTile old new path m place (Err (refused_by fault))

@@ -1,5 +1,5 @@
 //! Tiles that are read, and metatiles that are looked at.
-ghost use Rattle.std.specs.Prelude.{◌≡◌, ◌≤◌, ◌<◌, ◌^◌, Bool, List, ◌∷◌, length, IfOk, IfSome};
+ghost use Rattle.std.specs.Prelude.{◌≡◌, ◌<◌, ◌^◌, Bool, List, ◌∷◌};
 ghost use Rattle.farm_history.specs.Entries.{Entry, Fetch, Look};
 ghost use Rattle.farm_history.specs.Plans.{is_servable, key_of};
 ghost use Rattle.farm_plan.specs.Drawings.{plan_of};
@@ -8,7 +8,7 @@ ghost use Rattle.farm_core.specs.Answers.{Lasts, Reads};
 ghost use Rattle.farm_refinement.specs.Stands.{StandsFor};
 ghost use Rattle.plain_world.specs.World.{IsTile, meta_of, index_place};
 ghost use Rattle.farm_plan.specs.Spots.{IsKeyOf};
-ghost use Rattle.farm_core.specs.inner.Effects.{Fetches, GetsPart, refused_by};
+ghost use Rattle.farm_core.specs.inner.Effects.{Fetches, refused_by};
 ghost use Rattle.farm_refinement.specs.Reads.{ReadsTile};
 ghost use Rattle.farm_refinement.specs.inner.Events.{look_at, looked_by};
 
@@ -16,7 +16,7 @@ use crate::farm::Farm;
 use farm_base::{Bytes, MetaFault};
 use farm_plan::{Fetched, Key, Looked, Mark, Spot};
 use merc_fixed::index_place;
-use meta_container::{Entry, HEAD_BYTES, entry_in};
+use meta_container::{HEAD_BYTES, entry_in};
 use plain_world::{Meta, Tile};
 use render_jobs::serve;
 use std::alloc::Global;
@@ -31,44 +31,11 @@ fn refused(fault: StoreFault) -> Fetched
     }
 }
 
-// How many bytes the head of a picture's answer has over HTTP, but for the digits of its length and its version.
-const HEAD: u32 = 123;
+// How long the head of an answer over HTTP is at least, with a length and a version of one digit.
+const LEAST_HEAD: u32 = 125;
 
-fn digits(number: u64) -> u32
-    ensures { result ≤ 20 }
-{
-    match number.checked_ilog10() {
-        Some(power) => power + 1,
-        None => 1,
-    }
-}
-
-// A tile's bytes, as far as the path holds them. Room is left before them for the head of an answer with this version, as
-// far as the container has bytes there, so that they need not be copied behind it. No clause hangs on it.
-fn read_part<D: TileStore>(
-    alloc: Global,
-    store: &mut D,
-    path: &str,
-    entry: Entry,
-    version: u64,
-) -> Result<Option<Bytes>, StoreFault>
-    ensures state { GetsPart entry.offset entry.size (D.state store.old) (D.state store.new)
-        path.now result }
-    ensures short { IfOk result (λ found. IfSome found (λ b. length b ≤ entry.size)) }
-{
-    let head = HEAD + digits(version) + digits(u64::from(entry.size));
-    let room = head.min(entry.offset).min(u32::MAX - entry.size);
-    let offset = u64::from(entry.offset - room);
-    match store.get_part(alloc, path, offset, room + entry.size) {
-        Ok(Some(part)) => {
-            let before = (room as usize).min(part.len());
-            Ok(Some(Bytes::behind_room(part, before)))
-        }
-        Ok(None) => Ok(None),
-        Err(fault) => Err(fault),
-    }
-}
-
+// Before the tile's bytes room is left for the head of an answer with them, as far as the container has bytes there, so that
+// they need not be copied behind it. No clause hangs on how much.
 fn read_tile<D: TileStore>(
     alloc: Global,
     store: &mut D,
@@ -91,12 +58,19 @@ fn read_tile<D: TileStore>(
         Ok(entry) => entry,
         Err(fault) => return Err(Fetched::Spoilt(fault)),
     };
-    match read_part(alloc, store, path, entry, version) {
+    let more = version.checked_ilog10().unwrap_or(0);
+    let much = entry.size.checked_ilog10().unwrap_or(0);
+    let head = LEAST_HEAD.saturating_add(more).saturating_add(much);
+    let room = head.min(entry.offset).min(u32::MAX - entry.size);
+    let offset = u64::from(entry.offset - room);
+    match store.get_part(alloc, path, offset, room + entry.size) {
         Ok(Some(part)) => {
-            if part.as_slice().len() < entry.size as usize {
+            let before = (room as usize).min(part.len());
+            let left = part.len() - before;
+            if left < entry.size as usize {
                 Err(Fetched::Spoilt(MetaFault::Index(index_place(tile))))
             } else {
-                Ok(part)
+                Ok(Bytes::behind_room(part, before))
             }
         }
         Ok(None) => Err(Fetched::Gone),

@@ -1,9 +1,9 @@
 -- What the parts of an event do to a farm, without a history.
-use Rattle.std.specs.Prelude.{ℕ, ◌+◌, ◌≤◌, ◌≡◌, Bool, ◌||◌, not, nat_lt, nat_le, if◌then◌else◌, List, [], ◌∷◌, ◌++◌, length, replicate, slice_get, find, Option, Some, None, Result, Ok, Err, option_map, IfSome}
-use Rattle.farm_base.specs.Outside.{Outside, Counted}
+use Rattle.std.specs.Prelude.{ℕ, ◌+◌, ◌≤◌, ◌≡◌, Bool, ◌||◌, not, nat_lt, nat_le, if◌then◌else◌, List, [], ◌∷◌, ◌++◌, length, replicate, slice_get, find, Option, Some, None, Result, Ok, Err, option_map}
+use Rattle.farm_base.specs.Outside.{Outside}
 use Rattle.tile_store.specs.declared.stores.StoreFault.{StoreFault}
 use Rattle.tile_store.specs.declared.stores.StoreFault.TheVariants.{Failed, NoMemory}
-use Rattle.tile_store.specs.Stores.{StoreTold, StorePuts, part, with_failed_get}
+use Rattle.tile_store.specs.Stores.{StoreTold, StorePuts}
 use Rattle.farm_history.specs.declared.keys.Key.{Key}
 use Rattle.farm_history.specs.declared.keys.Mark.{Mark}
 use Rattle.farm_history.specs.declared.queues.Outcome.{Outcome}
@@ -134,15 +134,6 @@ EndsPut old new key version touched (Err NoMemory) =
     new ≡ record old { queues = after_end old.queues key Outcome.Cut }
 
 -- ---- reads
-
--- A read of a part of what a path holds, seen as its bytes: as the store's own.
-abbrev pub GetsPart : ℕ → ℕ → Outside StoreTold → Outside StoreTold → List ℕ
-    → Result (Option (List ℕ)) StoreFault → Type 0
-GetsPart offset len old new path (Ok found) =
-    (new ≡ old) × IfSome old.told (λ t. found ≡ option_map (part offset len) (t.content path))
-GetsPart offset len old new path (Err Failed) =
-    (new.told ≡ option_map (with_failed_get path) old.told) × Counted old.faults new.faults
-GetsPart offset len old new path (Err NoMemory) = new ≡ old
 
 -- a read of the tile at a place of a key's container, where the key has that mark; the store's list of failed calls alone may have changed
 pub record Fetches {D : Type 0} (state : D → Outside StoreTold) (old new : FarmSeen D) (key : Key)
