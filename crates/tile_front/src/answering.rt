@@ -151,7 +151,10 @@ pub(crate) fn fetch_and_say<R: Wait, M: Farm>(
     if matches!(fetched, Fetched::NoMemory) {
         return Ok(Disposition::Leaves(Reason::NoMemory));
     }
-    Ok(disposition_of_put(put_tile(alloc, fetched, response)))
+    match put_tile(alloc, fetched, response) {
+        Ok(()) => Ok(Disposition::Stays),
+        Err(_) => Ok(Disposition::Leaves(Reason::Starved)),
+    }
 }
 
 fn disposition_of_put(put: Result<(), NoMemory>) -> Disposition

@@ -1,5 +1,5 @@
 //! The heads of answers.
-ghost use Rattle.std.specs.Prelude.{◌≡◌, ◌++◌, OnOk, IfOk, codes, string_bytes};
+ghost use Rattle.std.specs.Prelude.{◌≡◌, ◌++◌, OnOk, IfOk, string_bytes};
 ghost use Rattle.tile_front.specs.Answers as spec;
 
 use farm_base::{Bytes, NoMemory};
@@ -39,18 +39,6 @@ pub(crate) fn put_text(
     Ok(())
 }
 
-// The head of an answer with a picture of so many bytes.
-#[tactic(auto, unfolding(crate::specs::Answers::tile_lines))]
-fn picture_head(alloc: Global, word: &str, version: u64, len: usize) -> Result<String, NoMemory>
-    ensures { IfOk result (λ t. string_bytes t
-        ≡ spec.response_head (codes "200 OK") (codes "image/x-portable-pixmap") len
-        (spec.tile_lines word.now version)) }
-{
-    let lines = format!(in alloc; "X-Tile: {word}\r\nX-Version: {version}\r\n")?;
-    let kind = "image/x-portable-pixmap";
-    answer_head(alloc, "200 OK", kind, lines.as_str(), len)
-}
-
 /// An answer with a picture, `clean` or `dirty`, of a data version. Where its head is as long as the room that a fetch leaves
 /// before the picture (`farm_core`), the picture is not copied.
 pub(crate) fn put_picture(
@@ -63,6 +51,11 @@ pub(crate) fn put_picture(
     ensures { OnOk result (response.new.items
         ≡ response.old.items ++ spec.picture_answer word.now version picture) }
 {
-    let head = picture_head(alloc, word, version, picture.as_slice().len())?;
+    let (status, kind) = ("200 OK", "image/x-portable-pixmap");
+    let len = picture.as_slice().len();
+    let more = format!(in alloc; "X-Tile: {word}\r\nX-Version: {version}\r\n")?;
+    let head = format!(in alloc;
+        "HTTP/1.1 {status}\r\nContent-Type: {kind}\r\nContent-Length: {len}\r\n{more}Connection: close\r\n\r\n"
+    )?;
     picture.put_with_head(head.as_str().as_bytes(), response)
 }
