@@ -244,7 +244,8 @@ impl<R: Net + rt::Files> SocketPorts<R> {
             self.can_accept = false;
             return None;
         };
-        let room = self.links.reserve(1).is_ok() && self.queue.reserve(self.links.len()).is_ok();
+        let queued = self.links.len().saturating_add(1);
+        let room = self.links.reserve(1).is_ok() && self.queue.reserve(queued).is_ok();
         if !room {
             self.crowd();
             return None;
