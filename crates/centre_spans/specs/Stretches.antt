@@ -18,9 +18,9 @@ abbrev pub gap : ℕ → ℕ → ℕ
 gap m n = m - n + (n - m)
 
 -- the square of the distance of two points
-abbrev pub distance : Point → Point → ℕ
-distance p c = gap c.x p.x * gap c.x p.x + gap c.y p.y * gap c.y p.y
+abbrev pub squared_distance : Point → Point → ℕ
+squared_distance p c = gap c.x p.x * gap c.x p.x + gap c.y p.y * gap c.y p.y
 
 -- the point's distance from the middle has at most this square
 abbrev pub InRound : Round → Point → Type 0
-InRound r c = distance r.p c ≤ r.square
+InRound r c = squared_distance r.p c ≤ r.square

@@ -7,7 +7,7 @@ use Rattle.farm_history.specs.Plans.{same_key}
 use Rattle.farm_history.proofs.Lists.{same_key-true, same_key-self, same_key-sym}
 use Rattle.plain_world.specs.World.{IsMeta}
 use Rattle.expiry_lists.specs.declared.table.Spot.{Spot}
-use Rattle.expiry_lists.specs.inner.Nodes.{Node, parent, place_of, bit_of, has_bit, node_mark, is_clean, is_clean_at, spot_of, has_spot, own_word, live_word, owns_at, lives_at, IsTree}
+use Rattle.expiry_lists.specs.inner.Nodes.{Node, parent, place_of, bit_of, has_bit, is_clean_at, spot_of, has_spot, own_word, live_word, owns_at, lives_at, IsTree}
 
 -- keys of which a third is one are one
 pub same_key-through : (a b c : Key) → same_key a b ≡ true → same_key c b ≡ same_key c a
@@ -95,27 +95,6 @@ same_there es new key w there writes k = ap is_some (writes k) ∙ go (same_key 
     go : (b : Bool) → same_key key k ≡ b → is_some (cond b (Some w) (lookup (same_key k) es)) ≡ is_some (lookup (same_key k) es)
     go true same = sym (ap (λ (x : Key). is_some (lookup (same_key x) es)) (sym (same_key-true key k same)) ∙ there)
     go false other = refl
-
--- A node that is written into the tables: they stay a quadtree where its place has a spot, with its bits where it is clean.
-pub record FitsNode (ss : List (Key × Spot)) (key : Key) (w : Node) : Type 0 where
-  pub meta : IsMeta key.meta
-  pub spotted : has_spot ss (place_of key) ≡ true
-  pub own : is_clean w.mark ≡ true → owns_at ss (place_of key) (bit_of key) ≡ true
-  pub clean_live : 3 ≤ key.meta.z → is_clean w.mark ≡ true → lives_at ss (place_of key) (bit_of key) ≡ true
-
-pub node_tree : (es new : List (Key × Node)) (ss : List (Key × Spot)) (key : Key) (w : Node) → Writes es key w new → FitsNode ss key w → IsTree es ss → IsTree new ss
-node_tree es new ss key w writes fits tree = record {
-  metas = λ k there. written_at es new key w writes k (λ o. is_some o ≡ true) there (λ own here. subst (λ (x : Key). IsMeta x.meta) own fits.meta) (tree.metas k);
-  places = tree.places;
-  groups = tree.groups;
-  spotted = λ k there. written_at es new key w writes k (λ o. is_some o ≡ true) there (λ own here. subst (λ (x : Key). has_spot ss (place_of x) ≡ true) own fits.spotted) (tree.spotted k);
-  rooted = tree.rooted;
-  own = λ k clean. written_at es new key w writes k (λ o. is_clean (node_mark o) ≡ true) clean
-      (λ own here. subst (λ (x : Key). owns_at ss (place_of x) (bit_of x) ≡ true) own (fits.own here)) (tree.own k);
-  clean_live = λ k deep clean. written_at es new key w writes k (λ o. is_clean (node_mark o) ≡ true) clean
-      (λ own here. subst (λ (x : Key). lives_at ss (place_of x) (bit_of x) ≡ true) own (fits.clean_live (subst (λ (x : Key). 3 ≤ x.meta.z) (sym own) deep) here)) (tree.clean_live k deep);
-  rises = tree.rises;
-}
 
 -- A spot that is written: it has the bits of what is clean at its place, and lies rightly between those above and below.
 pub record FitsSpot (es : List (Key × Node)) (ss : List (Key × Spot)) (p : Key) (w : Spot) : Type 0 where

@@ -1,20 +1,14 @@
 -- A piece of a list made wider by another one that it meets.
-use Rattle.std.proofs.Common.{◌≡◌, ℕ, zero, suc, ◌<◌, ◌≤◌, ◌⊎◌, Bool, true, false, ◌&&◌, ◌||◌, List, [], ◌∷◌, ◌++◌, length, take, drop, get_or, min, max, refl, ap, sym, ◌∙◌, inl, inr, arith}
+use Rattle.std.proofs.Common.{◌≡◌, ℕ, zero, suc, ◌<◌, ◌≤◌, ◌⊎◌, Bool, true, ◌&&◌, ◌||◌, List, [], ◌∷◌, ◌++◌, length, take, drop, get_or, min, max, ap, sym, ◌∙◌, inl, inr, arith}
 use Rattle.std.specs.Prelude.{nat_eq, nat_le}
 use Rattle.std.specs.List.{list_any}
 use Rattle.std.proofs.Math.ListN.{set}
 use Rattle.std.proofs.lemmas.Bool.{cases_lt, and_parts, eqb-true, leb-true}
 use Rattle.std.proofs.lemmas.List.{take_all, drop_all, append-nil}
-use Rattle.std.proofs.Math.Bool.{or_assoc}
+use Rattle.std.proofs.Math.Bool.{or_assoc, or_comm}
 use Rattle.tile_render.specs.declared.pieces.Piece.{Piece}
 use Rattle.tile_render.specs.inner.Pieces.{row_of, start_of, has}
 use Rattle.tile_render.proofs.Joining.{merged_has}
-
-or_turned : (a b : Bool) → (a || b) ≡ (b || a)
-or_turned true true = refl
-or_turned true false = refl
-or_turned false true = refl
-or_turned false false = refl
 
 or_put : (a b c : Bool) → ((a || b) || c) ≡ ((a || c) || b)
 or_put a b c = grind arith
@@ -41,7 +35,7 @@ module _ (p q : Piece) (met : (nat_eq (row_of p) (row_of q) && (nat_le (start_of
         let first : min p.place q.place ≡ q.place = omega (arith, lt) in
         let from : start_of q ≤ start_of p = omega (arith, lt, row) in
         ap (λ n. has j i (record { place = n; end = max p.end q.end })) first
-        ∙ (merged_has j i q p (max p.end q.end) row from left (omega arith) (omega arith) (turned (max_either p.end q.end)) ∙ or_turned (has j i q) (has j i p)))
+        ∙ (merged_has j i q p (max p.end q.end) row from left (omega arith) (omega arith) (turned (max_either p.end q.end)) ∙ or_comm (has j i q) (has j i p)))
     | inr ge ↦ (
         let first : min p.place q.place ≡ p.place = omega (arith, ge) in
         let from : start_of p ≤ start_of q = omega (arith, ge, row) in
