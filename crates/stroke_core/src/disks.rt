@@ -1,6 +1,6 @@
 //! The disks of joins and round caps, and the squares of square caps at a line of one point.
 use crate::bodies::between;
-use centre_spans::{Shape, Stretch, apart, around, nowhere, root};
+use centre_spans::{Shape, Stretch, apart, around, nowhere, short_root};
 use plain_world::Point;
 
 /// The disk round a point.
@@ -29,7 +29,7 @@ impl Shape for Disk {
         if half < down {
             return nowhere();
         }
-        around(self.p.x, root(u128::from(half * half - down * down)))
+        around(self.p.x, short_root(half * half - down * down))
     }
 }
 

@@ -10,11 +10,11 @@ returns-then-half-down c p inside same = disk_off c.args.self.now.half c.args.se
 pub returns : goal.returns
 returns c p inside same =
     let down = c.apart-down.result in
-    let left = c.from-3.ensures ∙ ap (λ k. k * k - down * down) c.from-half.ensures in
-    disk_row c.args.self.now.half c.args.self.now.p p c.args.y down c.root.result _ same (omega arith) (omega arith)
-    (λ d. c.root.ensures.is d ∙ ap (λ k. nat_le (d * d) k) left) (c.around.ensures p.x)
+    let left = ap (λ k. k * k - down * down) c.from-half.ensures in
+    disk_row c.args.self.now.half c.args.self.now.p p c.args.y down c.short_root.result _ same (omega arith) (omega arith)
+    (λ d. c.short_root.ensures.is d ∙ ap (λ k. nat_le (d * d) k) left) (c.around.ensures p.x)
 
 pub around-requires : goal.around-requires
 around-requires c =
-    let little : c.root.result ≤ c.from-half.result = root_le c.root.result c.from-half.result (omega (arith, c.root.ensures.low)) in
+    let little : c.short_root.result ≤ c.from-half.result = root_le c.short_root.result c.from-half.result (omega (arith, c.short_root.ensures.low)) in
     omega arith
