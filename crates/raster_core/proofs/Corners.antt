@@ -16,7 +16,7 @@ use Rattle.raster_core.specs.declared.edges.Edge.{Edge}
 use Rattle.raster_core.specs.declared.columns.Corner.{Corner}
 use Rattle.raster_core.specs.declared.columns.ColumnRun.{ColumnRun}
 use Rattle.raster_core.specs.declared.columns.Crossed.{Crossed}
-use Rattle.raster_core.specs.inner.Toggles.{flip, is_up_to, parity_at, AllInside, Toggled, RowToggled, RowsToggled, SameParities, IsEdge, at_centres}
+use Rattle.raster_core.specs.inner.Toggles.{flip, is_up_to, parity_at, AllInside, Toggled, RowToggled, RowsToggled, SameParities, IsFirstRow, IsEdge, at_centres}
 use Rattle.raster_core.specs.inner.Columns.{corner, is_past, odd_corners, in_run, in_part, parity_of, CornersTurned, PartTurned, Turned, SameTurns, Lists, Remains}
 use Rattle.raster_core.proofs.Toggling.{flip_flip, flip_swap, swapped, odd_push, odd_more, row_toggled, rows_start, rows_more, rows_end}
 use Rattle.raster_core.proofs.Downward.{between}
@@ -146,23 +146,23 @@ parts_more w m top from to old now next low high t r = record {
 }
 
 -- all rows of an edge
-pub parts_end : (w : Window) (e : Edge) (n : ℕ) (old now : Crossed) → IsEdge w e → e.bottom ≤ n
-    → PartTurned w (in_part w (counts_down e.a e.b) e.top n) old now → Turned w (counts_down e.a e.b) old now
-parts_end w e n old now edge past t = record {
+pub parts_end : (w : Window) (a b : Point) (top bottom n : ℕ) (old now : Crossed) → IsFirstRow w a.y top → IsFirstRow w b.y bottom → bottom ≤ n
+    → PartTurned w (in_part w (counts_down a b) top n) old now → Turned w (counts_down a b) old now
+parts_end w a b top bottom n old now first last past t = record {
   inside = t.inside;
   at = λ j i row col. t.at j i row col ∙ ap (λ b. flip b (parity_of w old j i)) (whole j i row);
 }
   where
-    whole : (j i : ℕ) → j < w.rows → in_part w (counts_down e.a e.b) e.top n j i ≡ counts_down e.a e.b (centre w i j)
-    whole j i row = elim (cases_lt j e.top) [
+    whole : (j i : ℕ) → j < w.rows → in_part w (counts_down a b) top n j i ≡ counts_down a b (centre w i j)
+    whole j i row = elim (cases_lt j top) [
       | inl above ↦ (
-          let off : (centre w i j).y < e.a.y = leb-false e.a.y (centre w i j).y (sym (edge.top j row) ∙ lt-leb e.top j above) in
-          part_above w (counts_down e.a e.b) e.top n j i above ∙ sym (off_above e.a e.b (centre w i j) off))
+          let off : (centre w i j).y < a.y = leb-false a.y (centre w i j).y (sym (first j row) ∙ lt-leb top j above) in
+          part_above w (counts_down a b) top n j i above ∙ sym (off_above a b (centre w i j) off))
       | inr from ↦ (elim (cases_lt j n) [
-        | inl below ↦ part_inside w (counts_down e.a e.b) e.top n j i from below
+        | inl below ↦ part_inside w (counts_down a b) top n j i from below
         | inr after ↦ (
-            let off : e.b.y ≤ (centre w i j).y = leb-true e.b.y (centre w i j).y (sym (edge.bottom j row) ∙ le-leb e.bottom j (omega arith)) in
-            part_below w (counts_down e.a e.b) e.top n j i after ∙ sym (off_below e.a e.b (centre w i j) off))
+            let off : b.y ≤ (centre w i j).y = leb-true b.y (centre w i j).y (sym (last j row) ∙ le-leb bottom j (omega arith)) in
+            part_below w (counts_down a b) top n j i after ∙ sym (off_below a b (centre w i j) off))
       ])
     ]
 

@@ -2,7 +2,7 @@
 ghost use Rattle.std.specs.Prelude.{◌≡◌, ℕ, ◌+◌, ◌-◌, ◌*◌, ◌/◌, ◌<◌, ◌≤◌, nat_le, All, IfSome, OnOk};
 ghost use Rattle.plain_world.specs.World.{InWorld, IsWindow, centre};
 ghost use Rattle.plain_shapes.specs.Rings.{counts_down, counts, ring_edges, in_rings};
-ghost use Rattle.raster_core.specs.inner.Toggles.{AllInside, IsFirst, IsEdge, Toggled, RowToggled, at_centres, odd_edges};
+ghost use Rattle.raster_core.specs.inner.Toggles.{AllInside, IsFirst, IsFirstRow, IsEdge, Toggled, RowToggled, at_centres, odd_edges};
 ghost use Rattle.raster_core.specs.inner.Columns.{CornersTurned, PartTurned, Turned, in_part, in_run};
 
 use crate::columns::{ColumnRun, Corner, Crossed, make_room};
@@ -75,6 +75,14 @@ fn first_past(w: Window, x: u32) -> u32
     first_at(w.west, w.pixel, w.cols, u64::from(x))
 }
 
+fn first_row(w: Window, y: u32) -> u32
+    requires { IsWindow w }
+    ensures first { IsFirstRow w y result }
+    ensures few { result ≤ w.rows }
+{
+    first_at(w.north, w.pixel, w.rows, u64::from(y))
+}
+
 // The first column of row `j` whose centre the edge counts at, or the number of columns where there is none. An
 // edge within one column, or wholly to one side of the window, has the same one in all of its rows.
 fn column(e: Edge, w: Window, j: u32) -> u32
@@ -109,11 +117,14 @@ fn cross_row(e: Edge, w: Window, j: u32, places: &mut Vec<u32>) -> Result<(), No
     Ok(())
 }
 
-fn edge_down(a: Point, b: Point, w: Window) -> Edge
+fn edge_down(a: Point, b: Point, top: u32, bottom: u32, w: Window) -> Edge
     requires a_in { InWorld a }
     requires b_in { InWorld b }
     requires down { a.y ≤ b.y }
     requires window { IsWindow w }
+    requires top { IsFirstRow w a.y top }
+    requires bottom { IsFirstRow w b.y bottom }
+    requires few_rows { bottom ≤ w.rows }
     ensures edge { IsEdge w result }
     ensures a { result.a ≡ a }
     ensures b { result.b ≡ b }
@@ -123,8 +134,8 @@ fn edge_down(a: Point, b: Point, w: Window) -> Edge
         b,
         west: first_past(w, a.x.min(b.x)),
         east: first_past(w, a.x.max(b.x)),
-        top: first_at(w.north, w.pixel, w.rows, u64::from(a.y)),
-        bottom: first_at(w.north, w.pixel, w.rows, u64::from(b.y)),
+        top,
+        bottom,
     }
 }
 
@@ -216,6 +227,8 @@ fn rows_together(e: Edge) -> u32
     }
 }
 
+// Adds the crossings of an edge that runs from `a` down to `b`. Of a large ring that is seen from far away most edges run
+// between two rows of centres.
 fn cross_down(a: Point, b: Point, w: Window, crossed: &mut Crossed) -> Result<(), NoMemory>
     requires a_in { InWorld a }
     requires b_in { InWorld b }
@@ -223,7 +236,12 @@ fn cross_down(a: Point, b: Point, w: Window, crossed: &mut Crossed) -> Result<()
     requires window { IsWindow w }
     ensures { OnOk result (Turned w (counts_down a b) crossed.old crossed.new) }
 {
-    let edge = edge_down(a, b, w);
+    let top = first_row(w, a.y);
+    let bottom = first_row(w, b.y);
+    if bottom <= top {
+        return Ok(());
+    }
+    let edge = edge_down(a, b, top, bottom, w);
     let rows = rows_together(edge);
     let mut from = edge.top;
     while from < edge.bottom {

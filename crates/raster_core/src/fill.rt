@@ -45,7 +45,7 @@ fn set_runs(places: &[u32], w: Window, mask: &mut Mask)
 {
     let mut k = 0;
     while k < places.len() {
-        let run = run_at(places, k, w);
+        let run = run_at(places, k, 0, w);
         set_run(run.row, run.start, run.end, mask);
         k = run.next;
     }

@@ -1,5 +1,5 @@
 //! The runs of a polygon's pixels, from the places where its edges are crossed.
-ghost use Rattle.std.specs.Prelude.{◌≡◌, ℕ, ◌+◌, ◌<◌, ◌≤◌, min, Bool, length, slice_index_or};
+ghost use Rattle.std.specs.Prelude.{◌≡◌, ℕ, ◌+◌, ◌/◌, ◌<◌, ◌≤◌, min, Bool, true, length, slice_index_or};
 ghost use Rattle.std.specs.List.Sorted.{IsNonDecreasing};
 ghost use Rattle.plain_world.specs.declared.world.Point.{Point};
 ghost use Rattle.plain_world.specs.World.{IsWindow};
@@ -34,8 +34,34 @@ fn run_end(places: &[u32], k: usize, east: u32) -> (u32, usize)
     }
 }
 
-/// The run from the k-th of the places at which edges are crossed: up to the next one, or to the row's end.
-pub fn run_at(places: &[u32], k: usize, w: Window) -> Run
+// Whether the place lies in the row.
+#[tactic(auto, using(centre_spans::proofs::Quotients::down_is))]
+fn is_row(place: u32, cols: u32, row: u32) -> bool
+    requires { 1 ≤ cols }
+    ensures { result ≡ true → row ≡ place / cols }
+{
+    let begin = u64::from(row) * u64::from(cols);
+    begin <= u64::from(place) && u64::from(place) - begin < u64::from(cols)
+}
+
+// The row of a place, whatever row is thought likely. Where that one or the next is right, nothing is divided.
+fn row_of(place: u32, cols: u32, likely: u32) -> u32
+    requires { 1 ≤ cols }
+    ensures { result ≡ place / cols }
+{
+    if is_row(place, cols, likely) {
+        return likely;
+    }
+    let next = likely.saturating_add(1);
+    if is_row(place, cols, next) {
+        return next;
+    }
+    place / cols
+}
+
+/// The run from the k-th of the places at which edges are crossed: up to the next one, or to the row's end. It is found
+/// soonest where its row is the one that is thought likely, or the next.
+pub fn run_at(places: &[u32], k: usize, likely: u32, w: Window) -> Run
     requires window { IsWindow w }
     requires some { k < length places.now }
     requires inside { AllInside w places.now }
@@ -48,7 +74,7 @@ pub fn run_at(places: &[u32], k: usize, w: Window) -> Run
         → Done w places.now k n → IsNext w member places.now n result }
 {
     let first = places[k];
-    let row = first / w.cols;
+    let row = row_of(first, w.cols, likely);
     let west = row * w.cols;
     let (end, next) = run_end(places, k + 1, west + w.cols);
     Run {

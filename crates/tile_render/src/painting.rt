@@ -113,9 +113,10 @@ pub(crate) fn paint_runs(
     ensures rows { image.new.rows ≡ image.old.rows }
 {
     let near = region_window(w, region);
+    let mut row = 0;
     let mut k = 0;
     while k < places.len() {
-        let run = run_at(places, k, near);
+        let run = run_at(places, k, row, near);
         let start = region.col + run.start;
         let end = region.col + run.end;
         image.blend_run(
@@ -125,6 +126,7 @@ pub(crate) fn paint_runs(
             paint.colour,
             paint.opacity,
         );
+        row = run.row;
         k = run.next;
     }
 }

@@ -17,5 +17,13 @@ loop-from-preserved c =
     }
 
 pub returns : goal.returns
-returns c = rw (c.edge_down-edge.ensures.a, c.edge_down-edge.ensures.b) at
-    (parts_end c.args.w c.edge_down-edge.result c.loop-from.from _ _ c.edge_down-edge.ensures.edge c.loop-from-test.false c.loop-from.invariant.turned)
+returns c =
+    let e : Edge = c.edge_down-edge.result in
+    let edge = c.edge_down-edge.ensures.edge in
+    rw (c.edge_down-edge.ensures.a, c.edge_down-edge.ensures.b) at
+    (parts_end c.args.w e.a e.b e.top e.bottom c.loop-from.from _ _ edge.top edge.bottom c.loop-from-test.false c.loop-from.invariant.turned)
+
+pub returns-then-bottom-top : goal.returns-then-bottom-top
+returns-then-bottom-top c =
+    parts_end c.args.w c.args.a c.args.b c.first_row-top.result c.first_row-bottom.result c.first_row-top.result _ _ c.first_row-top.ensures.first c.first_row-bottom.ensures.first
+    (omega arith) (parts_start c.args.w (counts_down c.args.a c.args.b) c.first_row-top.result c.args.crossed.now)
