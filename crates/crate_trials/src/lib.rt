@@ -34,5 +34,7 @@ pub use rows::{
     a_point_that_just_reaches_a_square, a_tile_read_back, places_in_a_changed_layer,
     the_container_of_sixteen_tiles, the_container_of_the_world, too_many_features,
 };
-pub use stores::{the_longest_part, what_fails, what_fails_in_memory, what_fails_of_two};
+pub use stores::{
+    each_wrong_step_is_told, the_longest_part, what_fails, what_fails_in_memory, what_fails_of_two,
+};
 pub use updates::{an_update_far_on, an_update_of_1001_ids};

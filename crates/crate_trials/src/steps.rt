@@ -182,3 +182,32 @@ faults 0";
 
 /// What the first one put is there for the second, once the first is gone.
 pub(crate) const THEIRS_GOES_ON: &str = "get one two";
+
+/// What stands there for the steps that do not hold:
+pub(crate) const BEFORE_WRONG: &str = "put one one
+";
+
+/// Steps that do not hold, one at least of each word that can fail, with a line of no word.
+pub(crate) const WRONG: &str = "put ../one one
+get one two
+part one 0 2 ne
+part one x 2 on
+none one
+faults 9
+faults
+refused one
+stage x one
+unstaged 5 one
+staged one
+unput one
+clear x
+missing tiles/one
+file tiles/one one
+write tiles/none/one one
+folder tiles/one
+remove tiles/none
+rename tiles/none tiles/two
+link one tiles/one
+puts one one
+
+";

@@ -3,7 +3,7 @@ use crate::steps;
 use crate::taking::{
     clean, is_got, read_step, take_in_files, take_in_store, take_put, take_staged,
 };
-use noted_puts::Wrongs;
+use noted_puts::{Letters, Wrongs};
 use std::alloc::Global;
 use std::fs::File;
 use std::rt::Files;
@@ -110,6 +110,29 @@ pub fn what_fails_of_two<R: Files<File = File> + Alloc + Copy>(
     drop(theirs);
     let _is_clean = clean(&rt);
     wrongs.into_text()
+}
+
+/// Whether each step that does not hold is told, and none that holds: a trial sees what is wrong.
+pub fn each_wrong_step_is_told<R: Files<File = File> + Alloc + Copy>(rt: R, alloc: Global) -> bool {
+    let mut text = Letters::new(alloc);
+    text.put(steps::BEFORE_WRONG);
+    text.put(steps::WRONG);
+    match text.into_text() {
+        Some(text) => tells(rt, alloc, text.as_str(), steps::WRONG),
+        None => false,
+    }
+}
+
+fn tells<R: Files<File = File> + Alloc + Copy>(
+    rt: R,
+    alloc: Global,
+    steps: &str,
+    wanted: &str,
+) -> bool {
+    match what_fails(rt, alloc, steps) {
+        Some(told) => told.as_str() == wanted,
+        None => false,
+    }
 }
 
 /// A part is no longer than a tile's text can be, whatever length a container tells: whether the bytes are put, the part that

@@ -19,6 +19,11 @@ fn memory_and_files_hold(rt: HostRuntime) {
 }
 
 #[test]
+fn each_wrong_step_is_told(rt: HostRuntime) {
+    assert!(rt; crate_trials::each_wrong_step_is_told(rt, rt.alloc()));
+}
+
+#[test]
 fn the_system_refuses(rt: HostRuntime) {
     ends(&rt, what_fails(rt, rt.alloc(), steps::THE_SYSTEM_REFUSES));
 }
