@@ -5,7 +5,7 @@
 //! a rectangle makes dirty, and values that were worked out by hand.
 //!
 //! A trial answers which of its parts came out as they should, or nothing where memory was wanting or something was refused.
-//! One of a store notes in lines what does not hold.
+//! One of a store is a text whose lines are steps (`steps`), and answers those that do not hold.
 #![tactic(auto)]
 
 mod drawings;
@@ -15,9 +15,9 @@ mod metatiles;
 mod outside;
 mod places;
 mod rows;
-mod staged;
-mod stored;
-mod trial;
+pub mod steps;
+mod stores;
+mod taking;
 mod updates;
 
 pub use marks::a_rectangle_on_one_map_at_one_zoom;
@@ -34,5 +34,7 @@ pub use rows::{
     a_point_that_just_reaches_a_square, a_tile_read_back, places_in_a_changed_layer,
     the_container_of_sixteen_tiles, the_container_of_the_world, too_many_features,
 };
-pub use trial::{Tried, what_fails, what_fails_in_memory, what_fails_of_two};
+pub use stores::{
+    each_wrong_step_is_told, the_longest_part, what_fails, what_fails_in_memory, what_fails_of_two,
+};
 pub use updates::{an_update_far_on, an_update_of_1001_ids};

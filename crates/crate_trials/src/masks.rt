@@ -31,9 +31,13 @@ fn square(alloc: Global) -> Result<Vec<Path>, NoMemory>
     Ok(vec![in alloc; Path { points }]?)
 }
 
-/// The pixels are 4 units wide and high, so their centres lie at 2, 6, 10 and 14: the square's west and north edges pass
-/// through the first ones, which it has, and its east and south edges through the third ones, which it has not.
-pub fn a_square_with_centres_on_its_edges(alloc: Global) -> Option<[bool; 2]> {
+// Sets the bits of the square's pixels.
+fn fill_square(alloc: Global, mask: &mut Mask) -> Result<(), NoMemory>
+    requires cols { mask.old.cols ≡ 4 }
+    requires rows { mask.old.rows ≡ 3 }
+    ensures cols { mask.new.cols ≡ 4 }
+    ensures rows { mask.new.rows ≡ 3 }
+{
     let window = Window {
         west: 0,
         north: 0,
@@ -41,25 +45,57 @@ pub fn a_square_with_centres_on_its_edges(alloc: Global) -> Option<[bool; 2]> {
         cols: 4,
         rows: 3,
     };
-    let square = square(alloc).ok()?;
-    let mut mask = Mask::new(alloc, 4, 3).ok()?;
-    fill_mask(alloc, square.as_slice(), window, &mut mask).ok()?;
+    let square = square(alloc)?;
+    let filled = fill_mask(alloc, square.as_slice(), window, mask);
+    drop(square);
+    filled
+}
+
+fn are_set(mask: &Mask) -> bool {
     let wanted = [
         true, true, false, false, true, true, false, false, false, false, false, false,
     ];
+    mask.bits() == wanted.as_slice()
+}
+
+// Whether a white image is red under the mask.
+fn is_painted(alloc: Global, mask: &Mask) -> Option<bool>
+    requires cols { mask.now.cols ≡ 4 }
+    requires rows { mask.now.rows ≡ 3 }
+{
     let mut image = Image::new(alloc, 4, 3, WHITE).ok()?;
-    image.paint(&mask, RED, 1000);
-    let is_painted = image.pixel(1, 1) == RED && image.pixel(2, 1) == WHITE;
-    Some([is_painted, mask.bits() == wanted.as_slice()])
+    image.paint(mask, RED, 1000);
+    Some(image.pixel(1, 1) == RED && image.pixel(2, 1) == WHITE)
+}
+
+/// The pixels are 4 units wide and high, so their centres lie at 2, 6, 10 and 14: the square's west and north edges pass
+/// through the first ones, which it has, and its east and south edges through the third ones, which it has not.
+pub fn a_square_with_centres_on_its_edges(alloc: Global) -> Option<[bool; 2]> {
+    let mut mask = Mask::new(alloc, 4, 3).ok()?;
+    let filled = fill_square(alloc, &mut mask);
+    let is_painted = is_painted(alloc, &mask);
+    let are_set = are_set(&mask);
+    drop(mask);
+    filled.ok()?;
+    Some([is_painted?, are_set])
+}
+
+fn is_text(alloc: Global, image: &Image, wanted: &[u8]) -> bool {
+    match image.write_ppm(alloc) {
+        Ok(text) => text.as_slice() == wanted,
+        Err(_) => false,
+    }
 }
 
 /// The text of an image.
 pub fn the_text_of_an_image(alloc: Global) -> Option<[bool; 1]> {
-    let mut image = Image::new(alloc, 2, 1, WHITE).ok()?;
+    let Ok(mut image) = Image::new(alloc, 2, 1, WHITE) else {
+        return None;
+    };
     image.blend(1, 0, RED, 1000);
-    let text = image.write_ppm(alloc).ok()?;
-    let wanted = b"P6\n2 1\n255\n\xff\xff\xff\xff\x00\x00";
-    Some([text.as_slice() == wanted.as_slice()])
+    let is_text = is_text(alloc, &image, b"P6\n2 1\n255\n\xff\xff\xff\xff\x00\x00");
+    drop(image);
+    Some([is_text])
 }
 
 fn put_parts(image: &TiledImage, out: &mut Vec<u8>) -> Result<(), NoMemory>

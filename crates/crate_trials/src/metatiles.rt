@@ -36,11 +36,23 @@ fn drawn(alloc: Global, text: &str, size: u32, meta: Meta) -> Option<DrawnMeta>
     drawn.ok()
 }
 
-fn are_boxed(tiles: &[Bytes], bounds: [[usize; 4]; 4]) -> bool {
-    for (tile, bounds) in tiles.iter().zip(bounds) {
-        if !is_boxed(tile.as_slice(), b"P6\n16 16\n255\n", 16, bounds) {
+// In order of index place, which goes by columns: north-west, south-west, north-east, south-east.
+fn bounds_at(place: u32) -> [usize; 4] {
+    match place {
+        0 => [8, 8, 16, 16],
+        1 => [8, 0, 16, 8],
+        2 => [0, 8, 8, 16],
+        _ => [0, 0, 8, 8],
+    }
+}
+
+fn are_quarters(tiles: &[Bytes]) -> bool {
+    let mut place = 0u32;
+    for tile in tiles {
+        if !is_boxed(tile.as_slice(), b"P6\n16 16\n255\n", 16, bounds_at(place)) {
             return false;
         }
+        place = place.saturating_add(1);
     }
     tiles.len() == 4
 }
@@ -48,12 +60,9 @@ fn are_boxed(tiles: &[Bytes], bounds: [[usize; 4]; 4]) -> bool {
 /// Four tiles in their places, which go by columns.
 pub fn four_tiles_of_one_window(alloc: Global) -> Option<[bool; 2]> {
     let drawn = drawn(alloc, SQUARE, 16, QUARTERS)?;
-    // In order of index place, which goes by columns: north-west, south-west, north-east, south-east.
-    let bounds = [[8, 8, 16, 16], [8, 0, 16, 8], [0, 8, 8, 16], [0, 0, 8, 8]];
-    Some([
-        drawn.meta == QUARTERS,
-        are_boxed(drawn.tiles.as_slice(), bounds),
-    ])
+    let are_so = [drawn.meta == QUARTERS, are_quarters(drawn.tiles.as_slice())];
+    drop(drawn);
+    Some(are_so)
 }
 
 /// The square in a style as the container of a metatile.

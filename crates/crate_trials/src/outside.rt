@@ -50,25 +50,41 @@ fn is_read(read: &Result<Vec<u8>, FileFault>, bytes: &[u8]) -> bool {
     matches!(read, Ok(found) if found.as_slice() == bytes)
 }
 
+fn fails<F: Files>(alloc: Global, files: &mut F, name: &str) -> bool {
+    let read = files.read(alloc, name);
+    is_failed(&read)
+}
+
+fn reads<F: Files>(alloc: Global, files: &mut F, name: &str, bytes: &[u8]) -> bool {
+    let read = files.read(alloc, name);
+    is_read(&read, bytes)
+}
+
+fn is_removed<R: rt::Files<File = File> + Alloc>(rt: &R) -> bool {
+    fs::remove_dir_all(rt, "folder").is_ok()
+}
+
+fn is_made<R: rt::Files<File = File> + Alloc>(rt: &R) -> bool {
+    fs::create_dir(rt, "folder").is_ok()
+}
+
+fn is_written<R: rt::Files<File = File> + Alloc>(rt: &R) -> bool {
+    fs::write(rt, "folder/file", b"bytes").is_ok()
+}
+
 /// A name that is missing, a folder and a file are read.
 pub fn files_are_read<R: rt::Files<File = File> + Alloc, F: Files>(
     rt: &R,
     alloc: Global,
     files: &mut F,
 ) -> bool {
-    drop(fs::remove_dir_all(rt, "folder"));
-    let missing = files.read(alloc, "folder");
-    let is_made = fs::create_dir(rt, "folder").is_ok();
-    let folder = files.read(alloc, "folder");
-    let is_written = fs::write(rt, "folder/file", b"bytes").is_ok();
-    let read = files.read(alloc, "folder/file");
-    let is_removed = fs::remove_dir_all(rt, "folder").is_ok();
-    is_made
-        && is_written
-        && is_removed
-        && is_failed(&missing)
-        && is_failed(&folder)
-        && is_read(&read, b"bytes")
+    let _was_there = is_removed(rt);
+    fails(alloc, files, "folder")
+        && is_made(rt)
+        && fails(alloc, files, "folder")
+        && is_written(rt)
+        && reads(alloc, files, "folder/file", b"bytes")
+        && is_removed(rt)
 }
 
 /// A longer file is refused.

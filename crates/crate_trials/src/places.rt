@@ -36,19 +36,16 @@ pub fn the_path_and_the_place_of_a_tile() -> bool {
     }
 }
 
+fn is_x(cm: i64, wanted: Option<u32>) -> bool {
+    x_from_cm(cm) == wanted
+}
+
 fn are_eastern_ends() -> bool {
-    for (cm, wanted) in [
-        (0, Some(536870912)),
-        (2003750837, Some(1073741824)),
-        (-2003750834, Some(0)),
-        (2003750838, None),
-        (-2003750835, None),
-    ] {
-        if x_from_cm(cm) != wanted {
-            return false;
-        }
-    }
-    true
+    is_x(0, Some(536870912))
+        && is_x(2003750837, Some(1073741824))
+        && is_x(-2003750834, Some(0))
+        && is_x(2003750838, None)
+        && is_x(-2003750835, None)
 }
 
 /// The ends of the Mercator coordinates.

@@ -130,17 +130,26 @@ fn is_there(found: Result<&[u8], MetaFault>, picture: &[u8]) -> bool {
     }
 }
 
-/// Sixteen tiles of 781 bytes; the ninth is the second of the third column.
-pub fn the_container_of_sixteen_tiles(alloc: Global) -> Option<[bool; 2]> {
-    let bytes = red_container(alloc, Meta { z: 2, x: 0, y: 0 })?;
-    let drawn = tile_of_the_square(alloc, RED, Tile { z: 2, x: 2, y: 1 })?;
+// Whether the ninth tile, which is the second of the third column, stands there as it is drawn alone.
+fn has_ninth(alloc: Global, bytes: &[u8]) -> Option<bool> {
     let entry = Entry {
         place: 17,
         offset: 7561,
         size: 781,
     };
-    let is_found = is_found(bytes.as_slice(), entry, drawn.as_slice());
-    Some([bytes.len() == 13028, is_found])
+    let drawn = tile_of_the_square(alloc, RED, Tile { z: 2, x: 2, y: 1 })?;
+    let is_so = is_found(bytes, entry, drawn.as_slice());
+    drop(drawn);
+    Some(is_so)
+}
+
+/// Sixteen tiles of 781 bytes.
+pub fn the_container_of_sixteen_tiles(alloc: Global) -> Option<[bool; 2]> {
+    let bytes = red_container(alloc, Meta { z: 2, x: 0, y: 0 })?;
+    let has_ninth = has_ninth(alloc, bytes.as_slice());
+    let is_long = bytes.len() == 13028;
+    drop(bytes);
+    Some([is_long, has_ninth?])
 }
 
 fn is_coloured(image: &Image, i: u32, j: u32, c: Colour) -> bool {

@@ -1,6 +1,6 @@
 //! Updates of very many ids, and of a layer of very many features.
 use crate::drawings::data;
-use data_versions::{LayerView, Snapshot, apply};
+use data_versions::{Feature, LayerView, Snapshot, apply};
 use geo_json::read_update;
 use noted_puts::Letters;
 use std::alloc::Global;
@@ -87,55 +87,67 @@ fn stands_at(layer: &LayerView<'_>, place: u32, id: u64) -> bool {
     }
 }
 
-// All below 2,100 but 2,060, and then 9,000.
-fn has_ids(snapshot: &Snapshot) -> bool {
-    let Some(layer) = snapshot.layer("land") else {
-        return false;
-    };
-    for place in 0..2099u32 {
-        let id = if place < 2060 {
+// Whether the ids from 0 on stand in the first places, so many of them, all but one.
+fn stand_in_order(layer: &LayerView<'_>, count: u32, gone: u32) -> bool {
+    for place in 0..count {
+        let id = if place < gone {
             place
         } else {
             place.saturating_add(1)
         };
-        if !stands_at(&layer, place, u64::from(id)) {
+        if !stands_at(layer, place, u64::from(id)) {
             return false;
         }
     }
-    layer.len() == 2100 && stands_at(&layer, 2099, 9000)
+    true
 }
 
-fn only_place(snapshot: &Snapshot, x: u32) -> Option<u32> {
-    let layer = snapshot.layer("land")?;
+// The id of the one feature that is near, in the column x.
+fn only_id(layer: &LayerView<'_>, x: u32) -> Option<u64> {
     let mut walk = layer.near(x, 0, x, 9);
-    let id = walk.next()?.id();
-    if walk.next().is_some() {
-        return None;
+    let first = id_of(walk.next());
+    let second = id_of(walk.next());
+    if second.is_some() { None } else { first }
+}
+
+fn id_of(feature: Option<&Feature>) -> Option<u64> {
+    match feature {
+        Some(feature) => Some(feature.id()),
+        None => None,
     }
+}
+
+// The place of that one, by both calls.
+fn only_place(layer: &LayerView<'_>, x: u32) -> Option<u32> {
+    let id = only_id(layer, x)?;
     let place = layer.next_near(0, x, 0, x, 9)?;
-    if stands_at(&layer, place, id) {
+    if stands_at(layer, place, id) {
         Some(place)
     } else {
         None
     }
 }
 
-fn is_changed(snapshot: &Snapshot) -> bool {
-    has_ids(snapshot)
-        && matches!(only_place(snapshot, 50), Some(2069))
-        && matches!(only_place(snapshot, 60), Some(2099))
+// All below 2,100 but 2,060, and then 9,000.
+fn is_changed(layer: &LayerView<'_>) -> bool {
+    layer.len() == 2100
+        && stand_in_order(layer, 2099, 2060)
+        && stands_at(layer, 2099, 9000)
+        && matches!(only_place(layer, 50), Some(2069))
+        && matches!(only_place(layer, 60), Some(2099))
 }
 
-fn is_unchanged(snapshot: &Snapshot) -> bool {
-    let Some(layer) = snapshot.layer("land") else {
-        return false;
-    };
-    for place in 0..2100u32 {
-        if !stands_at(&layer, place, u64::from(place)) {
-            return false;
-        }
-    }
-    layer.len() == 2100 && only_place(snapshot, 50).is_none() && only_place(snapshot, 60).is_none()
+fn is_unchanged(layer: &LayerView<'_>) -> bool {
+    layer.len() == 2100
+        && stand_in_order(layer, 2100, 2100)
+        && only_place(layer, 50).is_none()
+        && only_place(layer, 60).is_none()
+}
+
+fn are_told_apart(new: &Snapshot, old: &Snapshot) -> Option<[bool; 2]> {
+    let new = new.layer("land")?;
+    let old = old.layer("land")?;
+    Some([is_changed(&new), is_unchanged(&old)])
 }
 
 /// Of 2,100 features one that stands past 2,048 others goes, one is changed, and one is added. The data before are as they
@@ -146,8 +158,8 @@ pub fn an_update_far_on(alloc: Global) -> Option<[bool; 2]> {
         drop(old);
         return None;
     };
-    let are_so = [is_changed(&new), is_unchanged(&old)];
+    let are_so = are_told_apart(&new, &old);
     drop(new);
     drop(old);
-    Some(are_so)
+    are_so
 }

@@ -1,5 +1,6 @@
 //! The two stores by their trait, and the real files and streams by theirs.
-use crate_trials::{Tried, what_fails, what_fails_in_memory, what_fails_of_two};
+use crate::drawn::hold;
+use crate_trials::{steps, what_fails, what_fails_in_memory, what_fails_of_two};
 use farm_base::DiskFiles;
 use std::process::Abort;
 
@@ -13,38 +14,43 @@ fn ends(rt: &impl Abort, told: Option<String>) {
 
 #[test]
 fn memory_and_files_hold(rt: HostRuntime) {
-    ends(&rt, what_fails_in_memory(&rt, rt.alloc()));
-    ends(&rt, what_fails(rt, rt.alloc(), Tried::FilesHold));
+    ends(&rt, what_fails_in_memory(rt.alloc()));
+    ends(&rt, what_fails(rt, rt.alloc(), steps::HOLDS));
+}
+
+#[test]
+fn each_wrong_step_is_told(rt: HostRuntime) {
+    assert!(rt; crate_trials::each_wrong_step_is_told(rt, rt.alloc()));
 }
 
 #[test]
 fn the_system_refuses(rt: HostRuntime) {
-    ends(&rt, what_fails(rt, rt.alloc(), Tried::TheSystemRefuses));
+    ends(&rt, what_fails(rt, rt.alloc(), steps::THE_SYSTEM_REFUSES));
 }
 
 #[test]
 fn what_was_staged_is_put(rt: HostRuntime) {
-    ends(&rt, what_fails(rt, rt.alloc(), Tried::StagedIsPut));
+    ends(&rt, what_fails(rt, rt.alloc(), steps::STAGED_IS_PUT));
 }
 
 #[test]
 fn two_are_staged_at_once(rt: HostRuntime) {
-    ends(&rt, what_fails(rt, rt.alloc(), Tried::TwoAreStaged));
+    ends(&rt, what_fails(rt, rt.alloc(), steps::TWO_ARE_STAGED));
 }
 
 #[test]
 fn a_number_that_is_there_is_not_staged(rt: HostRuntime) {
-    ends(&rt, what_fails(rt, rt.alloc(), Tried::ANumberIsThere));
+    ends(&rt, what_fails(rt, rt.alloc(), steps::A_NUMBER_IS_THERE));
 }
 
 #[test]
 fn what_is_replaced_is_kept_until_the_clear(rt: HostRuntime) {
-    ends(&rt, what_fails(rt, rt.alloc(), Tried::ReplacedIsKept));
+    ends(&rt, what_fails(rt, rt.alloc(), steps::REPLACED_IS_KEPT));
 }
 
 #[test]
 fn what_a_run_left_is_removed(rt: HostRuntime) {
-    ends(&rt, what_fails(rt, rt.alloc(), Tried::LeftIsRemoved));
+    ends(&rt, what_fails(rt, rt.alloc(), steps::LEFT_IS_REMOVED));
 }
 
 #[test]
@@ -54,35 +60,38 @@ fn one_store_has_the_folder(rt: HostRuntime) {
 
 #[test]
 fn a_cut_file_is_read_anew(rt: HostRuntime) {
-    ends(&rt, what_fails(rt, rt.alloc(), Tried::ACutFileIsReadAnew));
+    ends(
+        &rt,
+        what_fails(rt, rt.alloc(), steps::A_CUT_FILE_IS_READ_ANEW),
+    );
 }
 
 #[test]
 fn a_linked_folder_is_not_emptied(rt: HostRuntime) {
     ends(
         &rt,
-        what_fails(rt, rt.alloc(), Tried::ALinkedFolderIsNotEmptied),
+        what_fails(rt, rt.alloc(), steps::A_LINKED_FOLDER_IS_NOT_EMPTIED),
     );
 }
 
 #[test]
 fn the_longest_part(rt: HostRuntime) {
-    ends(&rt, what_fails(rt, rt.alloc(), Tried::TheLongestPart));
+    hold(&rt, crate_trials::the_longest_part(rt, rt.alloc()));
 }
 
 #[test]
 fn bytes_whose_file_is_gone_are_put(rt: HostRuntime) {
-    ends(&rt, what_fails(rt, rt.alloc(), Tried::FileIsGone));
+    ends(&rt, what_fails(rt, rt.alloc(), steps::FILE_IS_GONE));
 }
 
 #[test]
 fn a_staged_put_that_fails_is_told(rt: HostRuntime) {
-    ends(&rt, what_fails(rt, rt.alloc(), Tried::APutFails));
+    ends(&rt, what_fails(rt, rt.alloc(), steps::A_PUT_FAILS));
 }
 
 #[test]
 fn a_staging_that_fails_is_told(rt: HostRuntime) {
-    ends(&rt, what_fails(rt, rt.alloc(), Tried::AStagingFails));
+    ends(&rt, what_fails(rt, rt.alloc(), steps::A_STAGING_FAILS));
 }
 
 #[test]
