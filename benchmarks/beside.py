@@ -11,6 +11,8 @@ import farm
 WORLD = 2**30
 BACKGROUND = (0xF2, 0xEF, 0xE9)
 REPEATS = int(os.environ.get("REPEATS", "5"))
+# Large pages for both, as the launcher asks for them.
+os.environ.setdefault("GLIBC_TUNABLES", "glibc.malloc.hugetlb=1")
 MIDDLE = WORLD // 2
 SHORE = [MIDDLE + 3 * 2**23, MIDDLE + 2**24]
 

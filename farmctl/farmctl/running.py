@@ -51,13 +51,14 @@ class Run:
         as_many_files_as_allowed()
         program = self.farm.tilefarm()
         try:
-            # in a group of its own, so that Ctrl-C comes to this alone; what clients do not read is given back
+            # in a group of its own, so that Ctrl-C comes to this alone; what clients do not read is given back, and what is
+            # large has large pages
             self.child = subprocess.Popen(
                 [program, "serve", str(self.farm.path)],
                 cwd=self.farm.folder,
                 stdin=subprocess.DEVNULL,
                 process_group=0,
-                env={"MALLOC_MMAP_THRESHOLD_": "131072", **os.environ},
+                env={"MALLOC_MMAP_THRESHOLD_": "131072", "GLIBC_TUNABLES": "glibc.malloc.hugetlb=1", **os.environ},
             )
         except OSError as fault:
             raise FarmError(f"{program}: {fault.strerror}") from fault
