@@ -1,7 +1,7 @@
 //! Whole numbers: distances and roots.
 ghost use Rattle.std.specs.Prelude.{◌≡◌, ℕ, ◌+◌, ◌-◌, ◌*◌, ◌/◌, ◌%◌, ◌^◌, ◌<◌, ◌≤◌, max, min, true, nat_le};
 
-use std::num::{nearest_i64_to_f64, saturating_f64_to_u64};
+use std::num::{f64_to_bits_with_nan, saturating_f64_to_u64};
 
 /// How far two numbers are apart.
 pub fn apart(m: u64, n: u64) -> u64
@@ -37,11 +37,17 @@ pub fn short_root(n: u64) -> u64
     ensures low { result * result ≤ n }
     ensures is { (d : ℕ) → nat_le d result ≡ nat_le (d * d) n }
 {
-    let guess = saturating_f64_to_u64(nearest_i64_to_f64(n as i64).sqrt());
+    let guess = halves(float_of(n).sqrt()) / 2;
     if is_short_root(guess, n) {
         return guess;
     }
     root(u128::from(n))
+}
+
+// How many halves a float below 2^50 has, rounded to the nearest after a quarter is taken away, so that half of it is the
+// float rounded down: those are the last digits of its sum with 2^51, and found sooner than by taking the float apart.
+fn halves(x: f64) -> u64 {
+    f64_to_bits_with_nan(x + 2_251_799_813_685_247.75) % (1 << 52)
 }
 
 fn is_short_root(guess: u64, n: u64) -> bool

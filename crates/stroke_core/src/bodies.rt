@@ -40,6 +40,7 @@ impl Shape for Body {
         between(self.of.a.y, self.of.b.y, u64::from(self.of.half))
     }
 
+    #[inline(always)]
     fn columns(&self, y: u32) -> Stretch {
         if is_same(self.of.a, self.of.b) {
             return nowhere();

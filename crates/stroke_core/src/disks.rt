@@ -23,6 +23,7 @@ impl Shape for Disk {
         between(self.p.y, self.p.y, u64::from(self.half))
     }
 
+    #[inline(always)]
     fn columns(&self, y: u32) -> Stretch {
         let half = u64::from(self.half);
         let down = apart(u64::from(y), u64::from(self.p.y));

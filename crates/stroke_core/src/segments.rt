@@ -52,6 +52,7 @@ pub fn segment_of(half: u32, a: Point, b: Point) -> Segment
 }
 
 /// The points of the height `y` that are near to the segment's line.
+#[inline(always)]
 pub fn near(s: Segment, y: u32) -> Stretch
     requires segment { IsSegment s }
     requires y { y ≤ 2 ^ 30 }

@@ -2,7 +2,7 @@
 ghost use Rattle.std.specs.Prelude.{◌≡◌, ℕ, ◌^◌, ◌<◌, ◌≤◌, ◌&&◌, ◌||◌, nat_eq, nat_le, min, max, true, false, [], length, All, IfOk, OnOk, IsPermutation};
 ghost use Rattle.std.specs.List.Sorted.{IsNonDecreasingBy};
 ghost use Rattle.plain_world.specs.Limits.{most_side};
-ghost use Rattle.tile_render.specs.inner.Pieces.{row_of, start_of, piece_at, IsPiece, has, covered, Apart, place};
+ghost use Rattle.tile_render.specs.inner.Pieces.{row_of, start_of, piece_at, IsPiece, IsAdded, has, covered, Apart, place};
 
 use farm_base::NoMemory;
 use plain_image::Surface;
@@ -189,23 +189,34 @@ impl Pieces {
         Ok(())
     }
 
-    fn add(&mut self, piece: Piece) -> Result<(), NoMemory>
-        ensures same { OnOk result ((j i : ℕ) → covered self.new.list.items j i
-            ≡ (covered self.old.list.items j i || has j i piece)) }
-        ensures inside { OnOk result ((cols rows : ℕ) → All (IsPiece cols rows) self.old.list.items
-            → IsPiece cols rows piece → All (IsPiece cols rows) self.new.list.items) }
+    // Adds a piece to the list.
+    #[inline(never)]
+    fn append(&mut self, piece: Piece) -> Result<(), NoMemory>
+        ensures added { OnOk result (IsAdded piece self.old self.new) }
         ensures cols { self.new.cols ≡ self.old.cols }
         ensures rows { self.new.rows ≡ self.old.rows }
-        ensures short { self.new.is_short ≡ self.old.is_short }
     {
-        let row = row_of(piece) as usize % LATEST;
-        if widen(&mut self.list, self.latest[row] as usize, piece) {
-            return Ok(());
-        }
         self.make_room()?;
-        self.latest[row] = self.list.len().min(u32::MAX as usize) as u32;
+        self.latest[row_of(piece) as usize % LATEST] = self
+            .list
+            .len()
+            .min(u32::MAX as usize) as u32;
         self.list.push(piece)?;
         Ok(())
+    }
+
+    // Adds the pixels of a piece: mostly to the latest one of its row, and without a call.
+    #[inline(always)]
+    fn add(&mut self, piece: Piece) -> Result<(), NoMemory>
+        ensures added { OnOk result (IsAdded piece self.old self.new) }
+        ensures cols { self.new.cols ≡ self.old.cols }
+        ensures rows { self.new.rows ≡ self.old.rows }
+    {
+        let likely = self.latest[row_of(piece) as usize % LATEST];
+        if widen(&mut self.list, likely as usize, piece) {
+            return Ok(());
+        }
+        self.append(piece)
     }
 }
 
@@ -218,6 +229,7 @@ impl Surface for Pieces {
 
     ghost shows = { λ _ p bits. ShowsPieces p bits };
 
+    #[inline(always)]
     fn cover(&mut self, j: u32, from: u32, end: u32) {
         if from >= end {
             return;

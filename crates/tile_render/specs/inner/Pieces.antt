@@ -1,5 +1,5 @@
 -- Pieces of rows, the pixels that a list of them covers, and the bits that are told by it.
-use Rattle.std.specs.Prelude.{◌≡◌, ℕ, ◌+◌, ◌*◌, ◌/◌, ◌%◌, ◌^◌, ◌<◌, ◌≤◌, Bool, false, ◌&&◌, nat_eq, nat_le, List, length, slice_index_or, All}
+use Rattle.std.specs.Prelude.{◌≡◌, ℕ, ◌+◌, ◌*◌, ◌/◌, ◌%◌, ◌^◌, ◌<◌, ◌≤◌, Bool, false, ◌&&◌, nat_eq, nat_le, List, length, slice_index_or, All, ◌||◌}
 use Rattle.std.specs.List.{list_any}
 use Rattle.plain_world.specs.declared.world.Point.{Point}
 use Rattle.plain_world.specs.declared.world.Window.{Window}
@@ -61,6 +61,13 @@ pub record ShowsPieces (now : Pieces) (bits : Bits) : Type 0 where
   pub rows : bits.rows ≡ now.rows
   pub count : length bits.bits ≡ now.rows * now.cols
   pub told : now.is_short ≡ false → ToldBits now.cols now.rows now.list.items bits.bits
+
+-- the pixels of a piece are covered too
+pub record IsAdded (piece : Piece) (old new : Pieces) : Type 0 where
+  pub same : (j i : ℕ) → covered new.list.items j i ≡ (covered old.list.items j i || has j i piece)
+  pub inside : (cols rows : ℕ) → All (IsPiece cols rows) old.list.items → IsPiece cols rows piece
+      → All (IsPiece cols rows) new.list.items
+  pub short : new.is_short ≡ old.is_short
 
 -- the pieces are apart, and are the window's pixels whose centres are members
 pub record PiecesTell (w : Window) (member : Point → Bool) (pieces : List Piece) : Type 0 where

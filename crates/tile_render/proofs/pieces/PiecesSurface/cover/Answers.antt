@@ -12,4 +12,4 @@ returns-in-Ok-clause-bits c start bits s =
     let from : start_of piece ≡ c.args.from = omega (arith, place, c.piece_at-piece.ensures.few_cols) in
     shows_more c.args.self.now c.add.new.self bits c.args.j c.args.from c.args.end piece row from (ap (λ (p : Piece). p.end) c.piece_at-piece.ensures.value)
     c.requires.row c.requires.end (omega (arith, c.if-from-end.false)) c.in-Ok.ensures.cols c.in-Ok.ensures.rows
-    (λ whole. (sym c.in-Ok.ensures.short ∙ whole, c.in-Ok.ensures.same, c.in-Ok.ensures.inside c.args.self.now.cols c.args.self.now.rows)) s
+    (λ whole. (sym c.in-Ok.ensures.added.short ∙ whole, c.in-Ok.ensures.added.same, c.in-Ok.ensures.added.inside c.args.self.now.cols c.args.self.now.rows)) s
