@@ -1,6 +1,6 @@
 -- The runs of members between crossings in order, and the bits that they set.
 use Rattle.std.proofs.Common.{◌≡◌, ℕ, suc, zero, ◌+◌, ◌-◌, ◌*◌, ◌/◌, ◌%◌, ◌<◌, ◌≤◌, min, max, Bool, true, false, ◌&&◌, List, [], length, take, get_or, refl, ap, sym, subst, ◌∙◌, inl, inr, arith}
-use Rattle.std.specs.Prelude.{nat_le, Result, Ok, Err, IfOk}
+use Rattle.std.specs.Prelude.{nat_le, Result, Ok, Err, OnOk}
 use Rattle.std.specs.List.Sorted.{IsNonDecreasing}
 use Rattle.std.proofs.Math.Bool.{and-false}
 use Rattle.std.proofs.Math.Nat.{mul-le-mul_right, div-add-mod, mod-lt}
@@ -224,12 +224,12 @@ crossings_in_order w m none crossed found places no_places no_corners t l inside
     flip_none true = refl
     flip_none false = refl
 
-pub crossings_found : {V E : Type 0} (items : V → List ℕ) (w : Window) (m : Point → Bool) (none crossed : Crossed) (found : List ℕ) (r : Result V E) → none.places.items ≡ []
+pub crossings_found : {V E : Type 0} (w : Window) (m : Point → Bool) (none crossed : Crossed) (found places : List ℕ) (r : Result V E) → none.places.items ≡ []
     → none.corners.items ≡ [] → Turned w m none crossed → Lists w crossed found
-    → IfOk r (λ v. AllInside w (items v)) → IfOk r (λ v. IsNonDecreasing (items v)) → IfOk r (λ v. SameParities found (items v)) → IfOk r (λ v. Crossings w m (items v))
-crossings_found items w m none crossed found (Ok v) no_places no_corners t l inside order same =
-    crossings_in_order w m none crossed found (items v) no_places no_corners t l inside order same
-crossings_found items w m none crossed found (Err e) no_places no_corners t l inside order same = tt
+    → OnOk r (AllInside w places) → OnOk r (IsNonDecreasing places) → OnOk r (SameParities found places) → OnOk r (Crossings w m places)
+crossings_found w m none crossed found places (Ok v) no_places no_corners t l inside order same =
+    crossings_in_order w m none crossed found places no_places no_corners t l inside order same
+crossings_found w m none crossed found places (Err e) no_places no_corners t l inside order same = tt
 
 -- the bits of the places before n are set, and the first k crossings are done with
 pub record Filled (w : Window) (m : Point → Bool) (places : List ℕ) (k : ℕ) (old now : Bits) : Type 0 where

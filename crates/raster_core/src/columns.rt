@@ -9,13 +9,9 @@ use crate::parities::thin;
 use farm_base::NoMemory;
 use plain_world::Window;
 use std::alloc::Global;
-use std::mem;
 
 // So many corners are never too many.
 const MOST_CORNERS: usize = 1 << 18;
-
-// A polygon that is crossed in 16 rows has mostly so many crossings.
-const SOME_PLACES: usize = 32;
 
 /// Where crossings of a column begin or end: its rows from `row` on are turned round.
 #[derive(Clone, Copy)]
@@ -40,17 +36,6 @@ pub fn no_crossings(alloc: Global) -> Crossed
         places: Vec::new(alloc),
         corners: Vec::new(alloc),
     }
-}
-
-/// Nothing is crossed, and there is room for the crossings of a small polygon: a list that grows is moved again and again.
-pub fn crossings_with_room(alloc: Global) -> Result<Crossed, NoMemory>
-    ensures places { IfOk result (λ crossed. crossed.places.items ≡ []) }
-    ensures corners { IfOk result (λ crossed. crossed.corners.items ≡ []) }
-{
-    Ok(Crossed {
-        places: Vec::with_capacity(alloc, SOME_PLACES)?,
-        corners: Vec::new(alloc),
-    })
 }
 
 /// Rows of a column: from `top` on and before `bottom`.
@@ -139,28 +124,26 @@ fn cross_columns(corners: &[Corner], w: Window, places: &mut Vec<u32>) -> Result
     Ok(())
 }
 
-/// All crossings as places. A place of a column is listed once at most, however many edges run through it.
-pub fn listed(w: Window, crossed: Crossed) -> Result<Vec<u32>, NoMemory>
+/// Adds the places of the columns, so that all crossings are listed. A place of a column is listed once at most, however
+/// many edges run through it.
+pub fn list_corners(w: Window, crossed: &mut Crossed) -> Result<(), NoMemory>
     requires { IsWindow w }
-    ensures { IfOk result (λ v. Lists w crossed v.items) }
+    ensures { OnOk result (Lists w crossed.old crossed.new.places.items) }
 {
-    let mut places = crossed.places;
-    let mut corners = crossed.corners;
-    corners.sort_unstable_by_key(|corner| u64::from(corner.column) * (1 << 32)
+    crossed.corners.sort_unstable_by_key(|corner| u64::from(corner.column) * (1 << 32)
         + u64::from(corner.row));
-    cross_columns(&corners, w, &mut places)?;
-    Ok(places)
+    cross_columns(&crossed.corners, w, &mut crossed.places)
 }
 
-fn list_columns(alloc: Global, w: Window, crossed: &mut Crossed) -> Result<(), NoMemory>
+fn list_columns(w: Window, crossed: &mut Crossed) -> Result<(), NoMemory>
     requires { IsWindow w }
     ensures { OnOk result (SameTurns w crossed.old crossed.new) }
 {
     if crossed.corners.len() < MOST_CORNERS {
         return Ok(());
     }
-    let all = mem::replace(crossed, no_crossings(alloc));
-    crossed.places = listed(w, all)?;
+    list_corners(w, crossed)?;
+    crossed.corners.clear();
     Ok(())
 }
 
@@ -171,7 +154,7 @@ pub fn make_room(alloc: Global, w: Window, crossed: &mut Crossed) -> Result<(), 
     requires inside { AllInside w crossed.old.places.items }
     ensures { OnOk result (SameTurns w crossed.old crossed.new) }
 {
-    list_columns(alloc, w, crossed)?;
+    list_columns(w, crossed)?;
     thin(alloc, w, &mut crossed.places)?;
     Ok(())
 }

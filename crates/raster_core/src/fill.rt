@@ -8,9 +8,9 @@ ghost use Rattle.plain_shapes.specs.inner.Canvas.{marked};
 ghost use Rattle.raster_core.specs.inner.Toggles.{AllInside};
 ghost use Rattle.raster_core.specs.inner.Crossings.{Crossings};
 
-use crate::columns::{crossings_with_room, listed};
+use crate::columns::{Crossed, list_corners, no_crossings};
 use crate::edges::cross_rings;
-use crate::parities::in_order;
+use crate::parities::put_in_order;
 use crate::runs::run_at;
 use centre_spans::set_run;
 use farm_base::NoMemory;
@@ -19,17 +19,24 @@ use plain_shapes::Path;
 use plain_world::Window;
 use std::alloc::Global;
 
-/// The places where the edges of the rings are crossed, row by row from the west: how many of them a row
-/// has up to a pixel is odd exactly where the pixel's centre lies in the rings.
-pub fn crossings(alloc: Global, rings: &[Path], w: Window) -> Result<Vec<u32>, NoMemory>
+/// Finds the places where the edges of the rings are crossed, row by row from the west: how many of them a row has up to
+/// a pixel is odd exactly where the pixel's centre lies in the rings. They come in the place of those that were found
+/// before, whose memory they take: a polygon mostly has few, and to ask for memory takes as long as to find them.
+pub fn find_crossings(
+    alloc: Global,
+    rings: &[Path],
+    w: Window,
+    crossed: &mut Crossed,
+) -> Result<(), NoMemory>
     requires rings { All (All InWorld) rings.now }
     requires window { IsWindow w }
-    ensures { IfOk result (λ v. Crossings w (in_rings rings.now) v.items) }
+    ensures { OnOk result (Crossings w (in_rings rings.now) crossed.new.places.items) }
 {
-    let mut crossed = crossings_with_room(alloc)?;
-    cross_rings(alloc, rings, w, &mut crossed)?;
-    let places = listed(w, crossed)?;
-    in_order(alloc, w, places)
+    crossed.places.clear();
+    crossed.corners.clear();
+    cross_rings(alloc, rings, w, crossed)?;
+    list_corners(w, crossed)?;
+    put_in_order(alloc, w, &mut crossed.places)
 }
 
 fn set_runs(places: &[u32], w: Window, mask: &mut Mask)
@@ -69,7 +76,8 @@ pub fn fill_mask(alloc: Global, rings: &[Path], w: Window, mask: &mut Mask) -> R
     ensures cols { mask.new.cols ≡ mask.old.cols }
     ensures rows { mask.new.rows ≡ mask.old.rows }
 {
-    let places = crossings(alloc, rings, w)?;
-    set_runs(&places, w, mask);
+    let mut crossed = no_crossings(alloc);
+    find_crossings(alloc, rings, w, &mut crossed)?;
+    set_runs(&crossed.places, w, mask);
     Ok(())
 }

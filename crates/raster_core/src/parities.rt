@@ -104,18 +104,19 @@ pub fn thin(alloc: Global, w: Window, places: &mut Vec<u32>) -> Result<(), NoMem
     Ok(())
 }
 
-/// The places in order. Where there are many, pairs of the same place are left out.
-pub fn in_order(alloc: Global, w: Window, places: Vec<u32>) -> Result<Vec<u32>, NoMemory>
+/// Puts the places in order. Where there are many, pairs of the same place are left out.
+pub fn put_in_order(alloc: Global, w: Window, places: &mut Vec<u32>) -> Result<(), NoMemory>
     requires window { IsWindow w }
-    requires inside { AllInside w places.items }
-    ensures inside { IfOk result (λ v. AllInside w v.items) }
-    ensures order { IfOk result (λ v. IsNonDecreasing v.items) }
-    ensures parity { IfOk result (λ v. SameParities places.items v.items) }
+    requires inside { AllInside w places.old.items }
+    ensures inside { OnOk result (AllInside w places.new.items) }
+    ensures order { OnOk result (IsNonDecreasing places.new.items) }
+    ensures parity { OnOk result (SameParities places.old.items places.new.items) }
 {
     if places.len() < SORTED || places.len() < area_of(w) / SPARSE {
-        let mut sorted = places;
-        sorted.sort_unstable();
-        return Ok(sorted);
+        places.sort_unstable();
+        return Ok(());
     }
-    by_bits(alloc, w, &places)
+    let kept = by_bits(alloc, w, places)?;
+    *places = kept;
+    Ok(())
 }

@@ -1,7 +1,7 @@
 -- What a symbolizer covers on a feature, as a mask of the region near it.
-use Rattle.std.proofs.Common.{List, [], ◌∷◌, subst, arith, refl, ◌≡◌, ◌+◌, ◌*◌, ◌/◌, ◌<◌, ℕ, Bool, false, ◌||◌, ap, sym, ◌∙◌, length, get_or, replicate}
-use Rattle.std.specs.Prelude.{All, Some}
-use Rattle.std.proofs.lemmas.Bool.{false_from_ne_true}
+use Rattle.std.proofs.Common.{List, [], ◌∷◌, subst, arith, refl, ◌≡◌, ◌+◌, ◌*◌, ◌/◌, ◌<◌, ℕ, Bool, true, false, ◌||◌, ap, sym, ◌∙◌, length, get_or, replicate}
+use Rattle.std.specs.Prelude.{All}
+use Rattle.std.proofs.lemmas.Bool.{false_from_ne_true, true≢false}
 use Rattle.std.proofs.lemmas.Nat.{row_fits}
 use Rattle.std.proofs.lemmas.List.{get_or-map}
 use Rattle.plain_world.specs.declared.world.Point.{Point}
@@ -11,7 +11,6 @@ use Rattle.plain_drawing.specs.declared.style.Symbolizer.TheVariants as paint
 use Rattle.plain_shapes.specs.declared.shapes.Geometry.{Geometry}
 use Rattle.plain_shapes.specs.declared.shapes.Geometry.TheVariants as shape
 use Rattle.plain_world.specs.World.{InWorld, centre, centres}
-use Rattle.raster_core.specs.inner.Crossings.{Crossings}
 use Rattle.geo_model.specs.declared.bounds.Bounds.{Bounds}
 use Rattle.geo_model.specs.Bounds.{InBounds}
 use Rattle.geo_model.specs.Shapes.{parts_of}
@@ -23,10 +22,11 @@ use Rattle.plain_drawing.specs.Drawing.{covers}
 use Rattle.plain_shapes.proofs.Places.{length-centres, get_or-centres}
 use Rattle.plain_drawing.proofs.Steps.{at_centres-replicate}
 use Rattle.tile_render.specs.declared.regions.Region.{Region}
-use Rattle.tile_render.specs.inner.Regions.{IsRegion, InRegion, region_window, Holds, HoldsCovered, Tells}
-use Rattle.tile_render.specs.declared.covers.CoveredPixels.{CoveredPixels}
-use Rattle.tile_render.specs.declared.covers.CoveredPixels.TheVariants.{Pieces, Runs}
-use Rattle.tile_render.specs.inner.Covers.{Shows, IsCover}
+use Rattle.tile_render.specs.inner.Regions.{InRegion, region_window, Holds, HoldsCovered, Tells}
+use Rattle.tile_render.specs.declared.pieces.Piece.{Piece}
+use Rattle.plain_shapes.specs.Rings.{in_rings}
+use Rattle.tile_render.specs.inner.Covers.{is_fill, Consists}
+use Rattle.tile_render.specs.inner.Pieces.{PiecesTell}
 
 -- of bits with the members marked, those that are set are the members
 pub bit_told : (w : Window) (member : Point → Bool) (bits : List Bool) (j i : ℕ) → bits ≡ marked member (centres w) (replicate (w.rows * w.cols) false)
@@ -52,28 +52,13 @@ region_told w p member bits holds is = record {
   holds = holds;
 }
 
--- crossings that tell members tell what is covered, where that is the same
-pub crossings_covered : (w : Window) (member covered : Point → Bool) (places : List ℕ) → ((c : Point) → covered c ≡ member c) → Crossings w member places
-    → Crossings w covered places
-crossings_covered w member covered places same is = subst (λ m. Crossings w m places) (λ i c. sym (same c) i) is
-
 -- the cover of a region that has all that is covered
-pub cover_made : (w : Window) (f : Feature) (s : Symbolizer) (r : Region) (near : Window) (pixels : CoveredPixels) → IsRegion w r → HoldsCovered w r f s
-    → near ≡ region_window w r → Shows near f.geometry s (Some pixels) → IsCover w f s (record { region = r; pixels = pixels })
-cover_made w f s r near pixels region holds near_is shows =
-    made pixels (subst (λ (v : Window). Shows v f.geometry s (Some pixels)) near_is shows)
-  where
-    made : (pixels : CoveredPixels) → Shows (region_window w r) f.geometry s (Some pixels) → IsCover w f s (record { region = r; pixels = pixels })
-    made (Pieces pieces) is = record {
-      region = region;
-      fits = is.inside;
-      says = record { tells = is; holds = holds };
-    }
-    made (Runs places) is = record {
-      region = region;
-      fits = record { inside = is.inside; order = is.order };
-      says = record { crossings = is; holds = holds };
-    }
+pub cover_made : (w : Window) (f : Feature) (s : Symbolizer) (r : Region) (near : Window) (pieces : List Piece) → HoldsCovered w r f s
+    → near ≡ region_window w r → PiecesTell near (λ c. covers near.pixel f.geometry c s) pieces → Consists w r (λ c. covers w.pixel f.geometry c s) pieces
+cover_made w f s r near pieces holds near_is tells = record {
+  tells = subst (λ (v : Window). PiecesTell v (λ c. covers v.pixel f.geometry c s) pieces) near_is tells;
+  holds = holds;
+}
 
 same_beside : (w : Window) (s : Symbolizer) (c : Point) (b : Bounds) (across down : ℕ) → across ≡ spread_across w.pixel s → down ≡ spread_down w.pixel s
     → Beside b (spread_across w.pixel s) (spread_down w.pixel s) c → Beside b across down c
@@ -102,6 +87,28 @@ pub raster_off : (pixel opacity : ℕ) (g : Geometry) (c : Point) → covers pix
 raster_off pixel opacity (shape.Points points) c = refl
 raster_off pixel opacity (shape.Lines lines) c = refl
 raster_off pixel opacity (shape.Polygon rings) c = refl
+
+-- what fills covers the insides of a polygon's rings, and nothing of other shapes
+pub filled : (pixel : ℕ) (g : Geometry) (s : Symbolizer) (rings : List (List Point)) (c : Point) → is_fill s ≡ true → g ≡ shape.Polygon rings
+    → covers pixel g c s ≡ in_rings rings c
+filled pixel g (paint.Polygon colour opacity) rings c fills is = ap (λ g. covers pixel g c (paint.Polygon colour opacity)) is
+filled pixel g (paint.Line stroke width opacity cap) rings c fills is = absurd (true≢false (sym fills))
+filled pixel g (paint.Markers colour width height opacity) rings c fills is = absurd (true≢false (sym fills))
+filled pixel g (paint.Raster opacity) rings c fills is = absurd (true≢false (sym fills))
+
+pub points_unfilled : (pixel : ℕ) (g : Geometry) (s : Symbolizer) (points : List Point) (c : Point) → is_fill s ≡ true → g ≡ shape.Points points
+    → covers pixel g c s ≡ false
+points_unfilled pixel g (paint.Polygon colour opacity) points c fills is = ap (λ g. covers pixel g c (paint.Polygon colour opacity)) is
+points_unfilled pixel g (paint.Line stroke width opacity cap) points c fills is = absurd (true≢false (sym fills))
+points_unfilled pixel g (paint.Markers colour width height opacity) points c fills is = absurd (true≢false (sym fills))
+points_unfilled pixel g (paint.Raster opacity) points c fills is = absurd (true≢false (sym fills))
+
+pub lines_unfilled : (pixel : ℕ) (g : Geometry) (s : Symbolizer) (lines : List (List Point)) (c : Point) → is_fill s ≡ true → g ≡ shape.Lines lines
+    → covers pixel g c s ≡ false
+lines_unfilled pixel g (paint.Polygon colour opacity) lines c fills is = ap (λ g. covers pixel g c (paint.Polygon colour opacity)) is
+lines_unfilled pixel g (paint.Line stroke width opacity cap) lines c fills is = absurd (true≢false (sym fills))
+lines_unfilled pixel g (paint.Markers colour width height opacity) lines c fills is = absurd (true≢false (sym fills))
+lines_unfilled pixel g (paint.Raster opacity) lines c fills is = absurd (true≢false (sym fills))
 
 -- the points of a shape that is points lie in the world, where the parts of the shape do
 pub points_inside : (g : Geometry) (points : List Point) → g ≡ shape.Points points → All (All InWorld) (parts_of g) → All InWorld points

@@ -7,6 +7,9 @@ use plain_shapes::{Geometry, Path};
 // So many features are read together.
 const TOGETHER: usize = 32;
 
+// Where less is painted of so many features, the shapes of the next ones are not read: most of them are not asked for.
+const SOME: usize = 8;
+
 fn first_path(geometry: &Geometry) -> Option<&Path> {
     match geometry {
         Geometry::Points(path) => Some(path),
@@ -32,26 +35,55 @@ fn name_len(attrs: &[Attr]) -> u64 {
     }
 }
 
-// Some numbers of the feature together, one of each part of it that is asked when it is drawn.
-fn read(feature: &Feature) -> u64 {
-    name_len(feature.attrs())
-        .saturating_add(first_place(feature.geometry()))
-        .saturating_add(u64::from(feature.bbox().west))
+// Some numbers of the feature together, one of each part of it that is asked for when it is drawn.
+fn read(feature: &Feature, has_names: bool, has_shape: bool) -> u64 {
+    let mut sum = u64::from(feature.bbox().west);
+    if has_names {
+        sum = sum.saturating_add(name_len(feature.attrs()));
+    }
+    if has_shape {
+        sum = sum.saturating_add(first_place(feature.geometry()));
+    }
+    sum
 }
 
-/// Before the k-th feature, and so many others with it, are drawn, all of them are read: one after another they would
-/// wait for memory, since what is painted between them takes their place in the nearest caches. That they are read must
-/// be of some use, or it would be left out: more than a number counts is more than memory holds.
-pub(crate) fn read_ahead(features: &[&Feature], k: usize) -> Result<(), NoMemory> {
-    if k % TOGETHER != 0 {
-        return Ok(());
+/// Whether attributes are asked for, and how much was painted before the last features that were read together.
+#[derive(Clone, Copy)]
+pub(crate) struct Ahead {
+    has_names: bool,
+    painted: usize,
+}
+
+/// Nothing was read yet, and what is drawn first is thought to be painted.
+pub(crate) fn from_the_first(has_names: bool, painted: usize) -> Ahead {
+    Ahead {
+        has_names,
+        painted: painted.saturating_sub(SOME),
     }
-    let mut sum = 0u64;
-    for n in k..features.len().min(k.saturating_add(TOGETHER)) {
-        sum = sum.saturating_add(read(features[n]));
+}
+
+impl Ahead {
+    /// Before the k-th feature, and so many others with it, are drawn, all of them are read: one after another they would
+    /// wait for memory, since what is painted between them takes their place in the nearest caches. That they are read
+    /// must be of some use, or it would be left out: more than a number counts is more than memory holds.
+    pub(crate) fn read(
+        &mut self,
+        features: &[&Feature],
+        k: usize,
+        painted: usize,
+    ) -> Result<(), NoMemory> {
+        if k % TOGETHER != 0 {
+            return Ok(());
+        }
+        let has_shapes = painted.saturating_sub(self.painted) >= SOME;
+        self.painted = painted;
+        let mut sum = 0u64;
+        for n in k..features.len().min(k.saturating_add(TOGETHER)) {
+            sum = sum.saturating_add(read(features[n], self.has_names, has_shapes));
+        }
+        if sum == u64::MAX {
+            return Err(NoMemory);
+        }
+        Ok(())
     }
-    if sum == u64::MAX {
-        return Err(NoMemory);
-    }
-    Ok(())
 }

@@ -11,7 +11,8 @@ ghost use Rattle.plain_drawing.specs.Styles.{is_paint};
 ghost use Rattle.plain_drawing.specs.Drawing.{covers};
 ghost use Rattle.plain_image.specs.Surfaces.{Becomes, Marks};
 ghost use Rattle.tile_render.specs.inner.Regions.{IsRegion, HoldsCovered};
-ghost use Rattle.tile_render.specs.inner.Covers.{is_fill, is_points, Shows, Covers};
+ghost use Rattle.tile_render.specs.inner.Covers.{is_fill, is_points, Covers};
+ghost use Rattle.tile_render.specs.inner.Pieces.{PiecesTell};
 
 use crate::pieces::{Piece, in_order, no_pieces};
 use crate::regions::{Region, region_near, region_window};
@@ -22,23 +23,14 @@ use plain_drawing::Symbolizer;
 use plain_image::Surface;
 use plain_shapes::{Geometry, LineCap};
 use plain_world::Window;
-use raster_core::crossings;
 use std::alloc::Global;
 use stroke_core::{stroke_lines, stroke_rings};
 
-/// Which pixels of a window are covered: some of a region, and no other.
+/// Which pixels of a window are covered: those of pieces of a region, which are apart and in order, and no other.
 #[derive(Drop)]
 pub(crate) struct Covered {
     pub region: Region,
-    pub pixels: CoveredPixels,
-}
-
-/// Covered pixels: those of pieces that are apart, or those in runs between the places where a polygon's edges
-/// are crossed; both in order.
-#[derive(Drop)]
-pub(crate) enum CoveredPixels {
-    Pieces(Vec<Piece>),
-    Runs(Vec<u32>),
+    pub pieces: Vec<Piece>,
 }
 
 fn half_of(width: u64, pixel: u32) -> u32
@@ -72,21 +64,6 @@ fn spread(symbolizer: Symbolizer, pixel: u32) -> (u64, u64)
             (u64::from(a), u64::from(b))
         }
         Symbolizer::Raster { .. } => (0, 0),
-    }
-}
-
-fn fill(alloc: Global, w: Window, feature: &Feature) -> Result<Option<CoveredPixels>, NoMemory>
-    requires { IsWindow w }
-    ensures { (colour : Colour) (opacity : ℕ)
-        → IfOk result (λ found. Shows w feature.now.geometry (paint.Polygon colour opacity) found) }
-{
-    match feature.geometry() {
-        Geometry::Points(_) => Ok(None),
-        Geometry::Lines(_) => Ok(None),
-        Geometry::Polygon(rings) => {
-            let places = crossings(alloc, rings.as_slice(), w)?;
-            Ok(Some(CoveredPixels::Runs(places)))
-        }
     }
 }
 
@@ -210,11 +187,13 @@ fn in_pieces(
     w: Window,
     feature: &Feature,
     symbolizer: Symbolizer,
-) -> Result<Option<CoveredPixels>, NoMemory>
+) -> Result<Option<Vec<Piece>>, NoMemory>
     requires window { IsWindow w }
     requires paint { IsTrue (is_paint symbolizer) }
     requires kind { is_fill symbolizer ≡ false }
-    ensures { IfOk result (λ found. Shows w feature.now.geometry symbolizer found) }
+    ensures { IfOk result (λ found. MatchOption found
+        ((c : Point) → covers w.pixel feature.now.geometry c symbolizer ≡ false)
+        (λ pieces. PiecesTell w (λ c. covers w.pixel feature.now.geometry c symbolizer) pieces.items)) }
 {
     if !suits(feature.geometry(), symbolizer) {
         return Ok(None);
@@ -222,30 +201,10 @@ fn in_pieces(
     let mut pieces = no_pieces(alloc, w.cols, w.rows);
     cover_on(alloc, w, feature, symbolizer, &mut pieces)?;
     let found = in_order(pieces)?;
-    Ok(Some(CoveredPixels::Pieces(found)))
+    Ok(Some(found))
 }
 
-// Those of the window's pixels whose centres the symbolizer covers on the feature; none where it covers
-// no shape of that kind.
-fn covered_on(
-    alloc: Global,
-    w: Window,
-    feature: &Feature,
-    symbolizer: Symbolizer,
-) -> Result<Option<CoveredPixels>, NoMemory>
-    requires window { IsWindow w }
-    requires paint { IsTrue (is_paint symbolizer) }
-    ensures { IfOk result (λ found. Shows w feature.now.geometry symbolizer found) }
-{
-    match symbolizer {
-        Symbolizer::Polygon { .. } => fill(alloc, w, feature),
-        Symbolizer::Line { .. } => in_pieces(alloc, w, feature, symbolizer),
-        Symbolizer::Markers { .. } => in_pieces(alloc, w, feature, symbolizer),
-        Symbolizer::Raster { .. } => Ok(None),
-    }
-}
-
-/// What is covered of a region that has all that is; nothing where there is none.
+/// What the symbolizer, which fills nothing, covers of a region that has all that is covered; nothing where there is none.
 pub(crate) fn cover(
     alloc: Global,
     w: Window,
@@ -256,11 +215,12 @@ pub(crate) fn cover(
     requires window { IsWindow w }
     requires region { IsRegion w region }
     requires paint { IsTrue (is_paint symbolizer) }
+    requires kind { is_fill symbolizer ≡ false }
     requires holds { HoldsCovered w region feature.now symbolizer }
     ensures { IfOk result (λ found. Covers w feature.now symbolizer found) }
 {
-    match covered_on(alloc, region_window(w, region), feature, symbolizer)? {
-        Some(pixels) => Ok(Some(Covered { region, pixels })),
+    match in_pieces(alloc, region_window(w, region), feature, symbolizer)? {
+        Some(pieces) => Ok(Some(Covered { region, pieces })),
         None => Ok(None),
     }
 }

@@ -107,7 +107,7 @@ pub fn draw_picture(
 {
     let across = tiles_across(m);
     let blank = TiledImage::over(alloc, before, size, across, style.background_color)?;
-    let mut canvas = Canvas::of(meta_window(m, size), blank);
+    let mut canvas = Canvas::of(alloc, meta_window(m, size), blank);
     draw_map(alloc, denominator(m.z, size), style, snapshot, &mut canvas)?;
     Ok(canvas.into_image())
 }

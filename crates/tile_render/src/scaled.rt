@@ -114,6 +114,11 @@ impl<'a> ScaledStyle<'a> {
         FilterTable::of(alloc, filters.as_slice())
     }
 
+    /// Whether one of its rules that are at scale has a filter. No proof rests on it.
+    pub(crate) fn has_filter(&self) -> bool {
+        self.rules.iter().any(|rule| rule.filter.is_some())
+    }
+
     /// Which of the Filter rules that match are drawn.
     pub(crate) fn filter_mode(&self) -> FilterMode
         ensures { result ≡ self.now.style.filter_mode }

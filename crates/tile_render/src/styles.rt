@@ -7,7 +7,7 @@ ghost use Rattle.tile_render.specs.inner.Items.{item_of, items_in};
 ghost use Rattle.tile_render.specs.inner.Nearby.{IsSource, FromData};
 ghost use Rattle.tile_render.specs.inner.Regions.{around};
 
-use crate::ahead::read_ahead;
+use crate::ahead::from_the_first;
 use crate::canvas::Canvas;
 use crate::items::{Item, Items, Source};
 use crate::nearby::NearData;
@@ -146,8 +146,9 @@ fn draw_each<'a>(
         canvas.old.image (map feature (map (λ f. f.now) features.now))) }
     ensures window { canvas.new.window ≡ canvas.old.window }
 {
+    let mut ahead = from_the_first(scaled.has_filter(), canvas.painted());
     for k in 0..features.len() {
-        read_ahead(features, k)?;
+        ahead.read(features, k, canvas.painted())?;
         draw_item(alloc, scaled, table, Item::Feature(features[k]), canvas)?;
     }
     Ok(())

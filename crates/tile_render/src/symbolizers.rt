@@ -1,5 +1,5 @@
 //! One symbolizer on one item.
-ghost use Rattle.std.specs.Prelude.{◌≡◌, ◌≤◌, ◌&&◌, not, nat_eq, IsTrue, OnOk};
+ghost use Rattle.std.specs.Prelude.{◌≡◌, ◌≤◌, true, IsTrue, OnOk};
 ghost use Rattle.plain_shapes.specs.declared.colour.Colour.{Colour};
 ghost use Rattle.plain_shapes.specs.Blending.{blend};
 ghost use Rattle.plain_drawing.specs.Styles.{is_paint};
@@ -17,7 +17,7 @@ use crate::regions::Region;
 use farm_base::NoMemory;
 use geo_model::Feature;
 use plain_drawing::{Grid, Symbolizer};
-use plain_shapes::Colour;
+use plain_shapes::{Colour, Geometry};
 use std::alloc::Global;
 
 /// What is painted over covered pixels: a colour, in an opacity in thousandths.
@@ -78,16 +78,34 @@ fn draw_on_grid(
     }
 }
 
-// Whether the parts of what the symbolizer covers are painted one after another: in full opacity a pixel of
-// two of them may be painted twice. Fills have runs that do not overlap, so they need no brush.
-fn takes_brush(symbolizer: Symbolizer, opacity: u32) -> bool
-    ensures { result ≡ (nat_eq opacity 1000 && not (is_fill symbolizer)) }
+// Paints the polygon of the feature in a region that has all that is filled; nothing else is filled.
+fn fill_region(
+    alloc: Global,
+    region: Region,
+    feature: &Feature,
+    symbolizer: Symbolizer,
+    canvas: &mut Canvas,
+) -> Result<(), NoMemory>
+    requires paint { IsTrue (is_paint symbolizer) }
+    requires kind { is_fill symbolizer ≡ true }
+    requires region { IsRegion canvas.old.window region }
+    requires holds { HoldsCovered canvas.old.window region feature.now symbolizer }
+    ensures drawn { OnOk result (canvas.new.image ≡ with_symbolizer canvas.old.window
+        (drawing.feature feature.now) canvas.old.image symbolizer) }
+    ensures window { canvas.new.window ≡ canvas.old.window }
 {
-    opacity == 1000 && !is_fill(symbolizer)
+    match feature.geometry() {
+        Geometry::Points(_) => Ok(()),
+        Geometry::Lines(_) => Ok(()),
+        Geometry::Polygon(rings) => {
+            canvas.fill(alloc, region, rings.as_slice(), paint_of(symbolizer))
+        }
+    }
 }
 
-// Paints what the symbolizer covers of the feature in a region that has all of it: with a brush, or once all
-// that is covered is known.
+// Paints what the symbolizer covers of the feature in a region that has all of it: a polygon between the crossings of its
+// edges; strokes and marks in full opacity with a brush, since a pixel of two of their parts may be painted twice, and in
+// less once all that is covered is known.
 fn draw_region(
     alloc: Global,
     region: Region,
@@ -102,8 +120,11 @@ fn draw_region(
         (drawing.feature feature.now) canvas.old.image symbolizer) }
     ensures window { canvas.new.window ≡ canvas.old.window }
 {
+    if is_fill(symbolizer) {
+        return fill_region(alloc, region, feature, symbolizer, canvas);
+    }
     let paint = paint_of(symbolizer);
-    if takes_brush(symbolizer, paint.opacity) {
+    if paint.opacity == 1000 {
         return canvas.brush(alloc, region, feature, symbolizer, paint.colour);
     }
     match cover(alloc, canvas.window(), region, feature, symbolizer)? {

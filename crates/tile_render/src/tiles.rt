@@ -28,7 +28,7 @@ pub fn draw_tile(
     ensures { IfOk result (λ v. v.items ≡ drawn_tile style.now size t snapshot.now) }
 {
     let blank = TiledImage::over(alloc, 0, size, 1, style.background_color)?;
-    let mut canvas = Canvas::of(window(t, size), blank);
+    let mut canvas = Canvas::of(alloc, window(t, size), blank);
     draw_map(alloc, denominator(t.z, size), style, snapshot, &mut canvas)?;
     let image = canvas.into_image();
     let mut text = Vec::new(alloc);

@@ -14,8 +14,6 @@ use Rattle.raster_core.specs.inner.Toggles.{AllInside}
 use Rattle.raster_core.specs.inner.Crossings.{Crossings}
 use Rattle.tile_render.specs.declared.regions.Region.{Region}
 use Rattle.tile_render.specs.declared.covers.Covered.{Covered}
-use Rattle.tile_render.specs.declared.covers.CoveredPixels.{CoveredPixels}
-use Rattle.tile_render.specs.declared.covers.CoveredPixels.TheVariants.{Pieces, Runs}
 use Rattle.tile_render.specs.declared.pieces.Piece.{Piece}
 use Rattle.tile_render.specs.inner.Pieces.{IsPiece, PiecesTell}
 use Rattle.tile_render.specs.inner.Regions.{IsRegion, region_window, Holds}
@@ -33,22 +31,10 @@ is_points (shape.Points points) = true
 is_points (shape.Lines lines) = false
 is_points (shape.Polygon rings) = false
 
--- the pixels are those whose centres the symbolizer covers on the shape; there are none where it
--- covers no such shape
-abbrev pub Shows : Window → Geometry → Symbolizer → Option CoveredPixels → Type 0
-Shows w g s None = (c : Point) → covers w.pixel g c s ≡ false
-Shows w g s (Some (Pieces pieces)) = PiecesTell w (λ c. covers w.pixel g c s) pieces.items
-Shows w g s (Some (Runs places)) = Crossings w (λ c. covers w.pixel g c s) places.items
-
 -- the crossings lie in the region, in order
 pub record RunsFit (w : Window) (r : Region) (places : List ℕ) : Type 0 where
   pub inside : AllInside (region_window w r) places
   pub order : IsNonDecreasing places
-
--- what is covered lies in the region
-abbrev pub Fits : Window → Region → CoveredPixels → Type 0
-Fits w r (Pieces pieces) = All (IsPiece r.cols r.rows) pieces.items
-Fits w r (Runs places) = RunsFit w r places.items
 
 -- the runs between the crossings have the region's pixels with a member as their centre, and no
 -- other pixel of the window has one
@@ -64,16 +50,11 @@ pub record Consists (w : Window) (r : Region) (member : Point → Bool)
   pub tells : PiecesTell (region_window w r) member pieces
   pub holds : Holds w r member
 
--- what is covered are the window's pixels with a member as their centre
-abbrev pub Says : Window → Region → (Point → Bool) → CoveredPixels → Type 0
-Says w r member (Pieces pieces) = Consists w r member pieces.items
-Says w r member (Runs places) = Between w r member places.items
-
 -- the cover has the pixels of the window whose centres the symbolizer covers on the feature
 pub record IsCover (w : Window) (f : Feature) (s : Symbolizer) (cover : Covered) : Type 0 where
   pub region : IsRegion w cover.region
-  pub fits : Fits w cover.region cover.pixels
-  pub says : Says w cover.region (λ c. covers w.pixel f.geometry c s) cover.pixels
+  pub fits : All (IsPiece cover.region.cols cover.region.rows) cover.pieces.items
+  pub says : Consists w cover.region (λ c. covers w.pixel f.geometry c s) cover.pieces.items
 
 -- there is none where no pixel is covered
 abbrev pub Covers : Window → Feature → Symbolizer → Option Covered → Type 0

@@ -1,6 +1,5 @@
-use Rattle.std.proofs.Common.{subst, ap, sym, ◌∙◌, None, Some}
+use Rattle.std.proofs.Common.{subst, ap, ◌∙◌, None, Some}
 use Rattle.std.specs.Prelude.{Option}
-use Rattle.std.proofs.lemmas.Bool.{and_parts, eqb-true, not-true}
 use Rattle.std.proofs.lemmas.Result.{on_ok_weaker}
 use Rattle.plain_world.specs.declared.world.Window.{Window}
 use Rattle.plain_shapes.specs.Blending.{blend}
@@ -10,16 +9,12 @@ use Rattle.tile_render.specs.inner.Covers.{Covers, IsCover}
 use Rattle.tile_render.proofs.Painted.{not_covered, painted_cover}
 use Rattle.tile_render.proofs.symbolizers.draw_region.Goals as goal
 
-pub brush-requires-clause-kind : goal.brush-requires-clause-kind
-brush-requires-clause-kind c = not-true _ (and_parts _ _ (sym c.takes_brush.ensures ∙ c.if-takes_brush.true)).1
-
-pub returns-then-takes_brush-clause-drawn : goal.returns-then-takes_brush-clause-drawn
-returns-then-takes_brush-clause-drawn c =
+pub returns-then-paint-eq1000-clause-drawn : goal.returns-then-paint-eq1000-clause-drawn
+returns-then-paint-eq1000-clause-drawn c =
     let paint = c.paint_of-paint.result in
-    let full = eqb-true paint.opacity 1000 (and_parts _ _ (sym c.takes_brush.ensures ∙ c.if-takes_brush.true)).0 in
     on_ok_weaker c.brush.result
     (painted_cover c.args.canvas.now.window c.args.feature.now c.args.symbolizer paint.colour 1000 c.args.canvas.now.image c.brush.new.self.image
-    (λ d. c.paint_of-paint.ensures.value d ∙ ap (λ n. blend paint.colour n d) full)) c.brush.ensures.drawn
+    (λ d. c.paint_of-paint.ensures.value d ∙ ap (λ n. blend paint.colour n d) c.if-paint-eq1000.true)) c.brush.ensures.drawn
 
 pub returns-in-Some-clause-drawn : goal.returns-in-Some-clause-drawn
 returns-in-Some-clause-drawn c =
