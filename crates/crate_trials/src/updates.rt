@@ -1,6 +1,6 @@
 //! Updates of very many ids, and of a layer of very many features.
 use crate::drawings::data;
-use data_versions::{Feature, LayerView, Snapshot, apply};
+use data_versions::{LayerView, SharedFeature, Snapshot, apply};
 use geo_json::read_update;
 use noted_puts::Letters;
 use std::alloc::Global;
@@ -110,9 +110,9 @@ fn only_id(layer: &LayerView<'_>, x: u32) -> Option<u64> {
     if second.is_some() { None } else { first }
 }
 
-fn id_of(feature: Option<&Feature>) -> Option<u64> {
-    match feature {
-        Some(feature) => Some(feature.id()),
+fn id_of(shared: Option<&SharedFeature>) -> Option<u64> {
+    match shared {
+        Some(shared) => Some(shared.feature().id()),
         None => None,
     }
 }

@@ -31,6 +31,7 @@ pub use dataset::{Change, Dataset, Layer, Update};
 pub use farm_base::ApplyFault;
 pub use finder::LayerFinder;
 pub use geo_model::Feature;
+pub use shared::SharedFeature;
 pub use snapshot::{LayerView, Snapshot};
 pub use updates::apply;
 pub use walk::NearFeatures;

@@ -1,25 +1,29 @@
 //! A feature that snapshots share, with what is read of many features at once beside it.
-ghost use Rattle.std.specs.Prelude.{◌≡◌, IfOk};
+ghost use Rattle.std.specs.Prelude.{◌≡◌, false, IfOk};
+ghost use Rattle.attribute_marks.specs.Marks.{Lacks};
 ghost use Rattle.data_versions.specs.inner.Cells.{IsWide, box_of};
 
+use attribute_marks::{marks_of, shares};
 use farm_base::NoMemory;
 use geo_model::{Bounds, Feature};
 use std::alloc::Global;
 use std::marker::Model;
 use std::sync::Arc;
 
-/// A share of a feature, and the feature's id and its box, which holds a point, so that a search by either does
-/// not read the feature itself. Contracts see it as the feature.
+/// A share of a feature, and the feature's id, its box, which holds a point, and marks of its attributes, so that a search
+/// by them does not read the feature itself. Contracts see it as the feature.
 #[derive(Drop)]
-pub(crate) struct SharedFeature {
+pub struct SharedFeature {
     id: u64,
     bounds: Bounds,
+    marks: u64,
     feature: Arc<Feature>,
 }
 
 impl Model for SharedFeature {
     ghost use Rattle.std.specs.Prelude.{◌≡◌};
     ghost use Rattle.plain_shapes.specs.Features.{Feature};
+    ghost use Rattle.attribute_marks.specs.Marks.{HasMarks};
     ghost use Rattle.data_versions.specs.inner.Cells.{IsWide, box_of};
 
     ghost Value = { Feature };
@@ -27,7 +31,7 @@ impl Model for SharedFeature {
     ghost view = { λ s. s.feature.value };
 
     ghost invariant = { λ s. (s.id ≡ s.feature.value.id) × (s.bounds ≡ box_of s.feature.value)
-        × IsWide s.bounds };
+        × IsWide s.bounds × HasMarks s.marks s.feature.value.attrs };
 }
 
 fn wide_box(feature: &Feature) -> Bounds
@@ -47,6 +51,7 @@ impl SharedFeature {
         Ok(SharedFeature {
             id: feature.id(),
             bounds: wide_box(&feature),
+            marks: marks_of(feature.attrs()),
             feature: Arc::new(alloc, feature)?,
         })
     }
@@ -58,15 +63,23 @@ impl SharedFeature {
         Ok(SharedFeature {
             id: self.id,
             bounds: self.bounds,
+            marks: self.marks,
             feature: Arc::try_clone(&self.feature)?,
         })
     }
 
     /// The feature itself.
-    pub(crate) fn feature(&self) -> &Feature
+    pub fn feature(&self) -> &Feature
         ensures { result.now ≡ self.now }
     {
         &self.feature
+    }
+
+    /// Whether one of its attributes may have one of the marks that are asked for; if not, none has.
+    pub fn may_have(&self, asked: u64) -> bool
+        ensures { result ≡ false → Lacks asked self.now.attrs }
+    {
+        shares(self.marks, asked)
     }
 
     /// The feature's id.

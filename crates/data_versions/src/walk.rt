@@ -6,7 +6,7 @@ use crate::blocks::Blocks;
 use crate::question::{Question, first_answer};
 use crate::segment::Segment;
 use crate::shared::SharedFeature;
-use geo_model::{Bounds, Feature};
+use geo_model::Bounds;
 use std::marker::Model;
 
 /// What is left of a walk over the features of a layer near a rectangle: those of some that stand side by side, and
@@ -45,7 +45,7 @@ impl<'a> NearFeatures<'a> {
     }
 
     /// The next feature, or none exactly where none is left.
-    pub fn next(&mut self) -> Option<&'a Feature>
+    pub fn next(&mut self) -> Option<&'a SharedFeature>
         ensures { MatchOption result ((self.old ≡ []) × (self.new ≡ []))
             (λ f. self.old ≡ f.now ∷ self.new) }
     {
@@ -57,7 +57,7 @@ impl<'a> NearFeatures<'a> {
             if let Some(place) = first_answer(here, question) {
                 self.here = &here[place + 1..];
                 self.from = from;
-                return Some(here[place].feature());
+                return Some(&here[place]);
             }
             if from >= count {
                 self.here = &[];

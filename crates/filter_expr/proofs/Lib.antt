@@ -8,6 +8,7 @@ pub mod Lexemes
 pub mod Lexes
 pub mod Local
 pub mod Loops
+pub mod Marked
 pub mod Nodes
 pub mod Numbers
 pub mod Sound

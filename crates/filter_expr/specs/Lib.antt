@@ -2,6 +2,7 @@ pub mod FilterTexts
 pub mod Filters
 pub mod Lexing
 pub mod Looked
+pub mod Marked
 pub mod Numbered
 pub mod Reading
 pub mod Signs

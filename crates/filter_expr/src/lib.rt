@@ -9,6 +9,7 @@
 
 mod faults;
 mod lexer;
+mod marks;
 mod names;
 mod numbered;
 mod parser;
@@ -19,6 +20,7 @@ mod value;
 mod walk;
 
 pub use faults::FilterFault;
+pub use marks::asked_marks;
 pub use plain_filters::{CompareSign, Expr, ProductPart, ProductSign, SumPart, SumSign};
 pub use reader::{law_one_answer, law_one_tree, law_says, parse};
 pub use table::FilterTable;

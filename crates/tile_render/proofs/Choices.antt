@@ -96,11 +96,11 @@ matches_by attrs d r = go (at_scale d r)
     go false = refl
 
 -- what the rules at scale draw on attributes
-abbrev taken_of : List Attr → Style → List Rule → List Rule
+abbrev pub taken_of : List Attr → Style → List Rule → List Rule
 taken_of attrs s rules =
     if list_any (takes attrs) rules then first_or_all s.filter_mode (filter (takes attrs) rules) else filter (λ r. r.else_filter) rules
 
-drawing_active : (attrs : List Attr) (d : ℕ) (s : Style) (rules : List Rule) → rules ≡ filter (at_scale d) s.rules → taken_of attrs s rules ≡ drawing_rules attrs d s
+pub drawing_active : (attrs : List Attr) (d : ℕ) (s : Style) (rules : List Rule) → rules ≡ filter (at_scale d) s.rules → taken_of attrs s rules ≡ drawing_rules attrs d s
 drawing_active attrs d s rules active =
     ap (taken_of attrs s) active
     ∙ ap (λ b. if b then first_or_all s.filter_mode (filter (takes attrs) (filter (at_scale d) s.rules)) else filter (λ r. r.else_filter) (filter (at_scale d) s.rules))

@@ -7,6 +7,7 @@ pub mod Joining
 pub mod Keeping
 pub mod Metas
 pub mod Painted
+pub mod Passing
 pub mod Pixels
 pub mod Runs
 pub mod Skipping

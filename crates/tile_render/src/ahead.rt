@@ -1,5 +1,7 @@
 //! What is asked of features, read for some of them at once before they are drawn.
 
+use crate::scaled::ScaledStyle;
+use data_versions::SharedFeature;
 use farm_base::{Attr, NoMemory};
 use geo_model::Feature;
 use plain_shapes::{Geometry, Path};
@@ -47,28 +49,27 @@ fn read(feature: &Feature, has_names: bool, has_shape: bool) -> u64 {
     sum
 }
 
-/// Whether attributes are asked for, and how much was painted before the last features that were read together.
+/// How much was painted before the last features that were read together.
 #[derive(Clone, Copy)]
 pub(crate) struct Ahead {
-    has_names: bool,
     painted: usize,
 }
 
 /// Nothing was read yet, and what is drawn first is thought to be painted.
-pub(crate) fn from_the_first(has_names: bool, painted: usize) -> Ahead {
+pub(crate) fn from_the_first(painted: usize) -> Ahead {
     Ahead {
-        has_names,
         painted: painted.saturating_sub(SOME),
     }
 }
 
 impl Ahead {
-    /// Before the k-th feature, and so many others with it, are drawn, all of them are read: one after another they would
+    /// Before the k-th feature, and so many others with it, are drawn, all of them that may be drawn are read: one after another they would
     /// wait for memory, since what is painted between them takes their place in the nearest caches. That they are read
     /// must be of some use, or it would be left out: more than a number counts is more than memory holds.
     pub(crate) fn read(
         &mut self,
-        features: &[&Feature],
+        scaled: &ScaledStyle<'_>,
+        features: &[&SharedFeature],
         k: usize,
         painted: usize,
     ) -> Result<(), NoMemory> {
@@ -77,9 +78,12 @@ impl Ahead {
         }
         let has_shapes = painted.saturating_sub(self.painted) >= SOME;
         self.painted = painted;
+        let has_names = scaled.has_filter();
         let mut sum = 0u64;
         for n in k..features.len().min(k.saturating_add(TOGETHER)) {
-            sum = sum.saturating_add(read(features[n], self.has_names, has_shapes));
+            if scaled.may_draw(features[n]) {
+                sum = sum.saturating_add(read(features[n].feature(), has_names, has_shapes));
+            }
         }
         if sum == u64::MAX {
             return Err(NoMemory);

@@ -7,9 +7,9 @@ ghost use Rattle.data_versions.specs.Near.{all_near};
 ghost use Rattle.tile_render.specs.inner.Nearby.{IsSource};
 
 use crate::items::Source;
-use data_versions::{NearFeatures, Snapshot};
+use data_versions::{NearFeatures, SharedFeature, Snapshot};
 use farm_base::NoMemory;
-use geo_model::{Bounds, Feature};
+use geo_model::Bounds;
 use std::alloc::Global;
 use std::marker::Model;
 
@@ -20,7 +20,7 @@ const MOST_KEPT: usize = 131_072;
 #[derive(Drop)]
 pub(crate) struct NearLayer<'a> {
     name: &'a str,
-    pub features: Vec<&'a Feature>,
+    pub features: Vec<&'a SharedFeature>,
     pub has_all: bool,
 }
 
@@ -50,7 +50,7 @@ fn listed<'a>(
     alloc: Global,
     mut walk: NearFeatures<'a>,
     most: usize,
-) -> Result<Option<Vec<&'a Feature>>, NoMemory>
+) -> Result<Option<Vec<&'a SharedFeature>>, NoMemory>
     ensures { IfOk result
         (λ found. IfSome found (λ features. map (λ f. f.now) features.items ≡ walk.entry)) }
 {

@@ -1,32 +1,35 @@
 //! A style at a scale.
-ghost use Rattle.std.specs.Prelude.{◌≡◌, ◌*◌, ◌^◌, ◌<◌, IfOk, [], map, filter, option_map};
+ghost use Rattle.std.specs.Prelude.{◌≡◌, ◌*◌, ◌^◌, ◌<◌, false, IfOk, IfSome, All, [], map, filter, option_map};
 ghost use Rattle.plain_filters.specs.Filters.{tree_of};
-ghost use Rattle.plain_drawing.specs.Rules.{at_scale};
+ghost use Rattle.plain_drawing.specs.Rules.{at_scale, drawing_rules};
 ghost use Rattle.plain_drawing.specs.Styles.{KeepsRanges};
-ghost use Rattle.tile_render.specs.inner.Chosen.{filters_at};
+ghost use Rattle.tile_render.specs.inner.Chosen.{filters_at, RuleAsks};
 
+use data_versions::SharedFeature;
 use farm_base::NoMemory;
-use filter_expr::FilterTable;
+use filter_expr::{FilterTable, asked_marks};
 use plain_drawing::{FilterMode, Rule, Style};
 use plain_filters::Expr;
 use scale_rules::active;
 use std::alloc::Global;
 use std::marker::Model;
 
-/// A style at a scale: those of its rules that are at scale, in order, chosen once for all items.
+/// A style at a scale: those of its rules that are at scale, in order, chosen once for all items; and marks of attributes
+/// of which an item has one where a rule draws it, if it is known that it has.
 #[derive(Drop)]
 pub(crate) struct ScaledStyle<'a> {
     style: &'a Style,
     denominator: u64,
     rules: Vec<&'a Rule>,
+    asked: Option<u64>,
 }
 
 impl<'a> Model for ScaledStyle<'a> {
-    ghost use Rattle.std.specs.Prelude.{◌≡◌, map, filter};
+    ghost use Rattle.std.specs.Prelude.{◌≡◌, map, filter, IfSome};
     ghost use Rattle.plain_drawing.specs.Rules.{at_scale};
     ghost use Rattle.plain_filters.specs.inner.FilterCodes.{filter_code};
     ghost use Rattle.std.specs.Coded.{codes};
-    ghost use Rattle.tile_render.specs.inner.Chosen.{Scaled};
+    ghost use Rattle.tile_render.specs.inner.Chosen.{Scaled, PassesOver};
 
     ghost Value = { Scaled };
 
@@ -34,8 +37,9 @@ impl<'a> Model for ScaledStyle<'a> {
 
     ghost view = { λ s. record { style = s.style.now; denominator = s.denominator } };
 
-    ghost invariant = { λ s. map (λ r. r.now) s.rules.items
-        ≡ filter (at_scale s.denominator) s.style.now.rules };
+    ghost invariant = { λ s. (map (λ r. r.now) s.rules.items
+        ≡ filter (at_scale s.denominator) s.style.now.rules)
+        × IfSome s.asked (λ asked. PassesOver asked s.denominator s.style.now) };
 }
 
 fn at_scale(rule: &Rule, denominator: u64) -> bool
@@ -67,6 +71,30 @@ fn active_rules<'a>(
     Ok(chosen)
 }
 
+// The marks that a rule's filter asks for; none for an ElseFilter rule, or for one without a filter.
+fn marks_of_rule(rule: &Rule) -> Option<u64>
+    ensures { IfSome result (λ asked. RuleAsks asked rule.now) }
+{
+    if rule.else_filter {
+        return None;
+    }
+    match &rule.filter {
+        Some(filter) => asked_marks(filter),
+        None => None,
+    }
+}
+
+// The marks of all rules together, if each asks for some.
+fn marks_of_rules(rules: &[&Rule]) -> Option<u64>
+    ensures { IfSome result (λ asked. All (λ r. RuleAsks asked r.now) rules.now) }
+{
+    let mut asked = 0u64;
+    for rule in rules {
+        asked |= marks_of_rule(rule)?;
+    }
+    Some(asked)
+}
+
 fn filters_of<'a>(alloc: Global, rules: &[&'a Rule]) -> Result<Vec<&'a Option<Expr>>, NoMemory>
     ensures { IfOk result (λ v. map (λ f. option_map tree_of f.now) v.items
         ≡ map (λ r. r.now.filter) rules.now) }
@@ -91,10 +119,12 @@ impl<'a> ScaledStyle<'a> {
             (λ s. s ≡ record { style = style.entry.now; denominator = denominator }) }
     {
         let rules = active_rules(alloc, style.rules.as_slice(), denominator)?;
+        let asked = marks_of_rules(rules.as_slice());
         Ok(ScaledStyle {
             style,
             denominator,
             rules,
+            asked,
         })
     }
 
@@ -112,6 +142,17 @@ impl<'a> ScaledStyle<'a> {
     {
         let filters = filters_of(alloc, self.rules.as_slice())?;
         FilterTable::of(alloc, filters.as_slice())
+    }
+
+    /// Whether a rule may draw the feature, by the marks of its attributes; if not, none does.
+    pub(crate) fn may_draw(&self, shared: &SharedFeature) -> bool
+        ensures { result ≡ false
+            → drawing_rules shared.now.attrs self.now.denominator self.now.style ≡ [] }
+    {
+        match self.asked {
+            Some(asked) => shared.may_have(asked),
+            None => true,
+        }
     }
 
     /// Whether one of its rules that are at scale has a filter. No proof rests on it.

@@ -15,10 +15,9 @@ use crate::regions::around;
 use crate::rules::{Choice, first_match, is_chosen};
 use crate::scaled::ScaledStyle;
 use crate::symbolizers::draw_symbolizer;
-use data_versions::LayerView;
+use data_versions::{LayerView, SharedFeature};
 use farm_base::NoMemory;
 use filter_expr::FilterTable;
-use geo_model::Feature;
 use plain_drawing::{FilterMode, Rule, Style};
 use std::alloc::Global;
 
@@ -110,6 +109,33 @@ fn draw_item<'a>(
     }
 }
 
+// Draws a feature by a style. It is not looked at where the marks of its attributes say that no rule draws it.
+fn draw_shared<'a>(
+    alloc: Global,
+    scaled: &ScaledStyle<'a>,
+    table: &mut FilterTable<'a>,
+    shared: &'a SharedFeature,
+    canvas: &mut Canvas,
+) -> Result<(), NoMemory>
+    requires { table.old.filters ≡ filters_at scaled.now }
+    ensures drawn { OnOk result (canvas.new.image
+        ≡ with_item canvas.old.window scaled.now.denominator scaled.now.style canvas.old.image
+        (feature shared.now)) }
+    ensures window { canvas.new.window ≡ canvas.old.window }
+    ensures table { table.new.filters ≡ table.old.filters }
+{
+    if !scaled.may_draw(shared) {
+        return Ok(());
+    }
+    draw_item(
+        alloc,
+        scaled,
+        table,
+        Item::Feature(shared.feature()),
+        canvas,
+    )
+}
+
 // Draws the features of a layer of data by a style, in order. Those that are too far from the window to
 // paint any of its pixels are passed over.
 fn draw_features<'a>(
@@ -128,7 +154,7 @@ fn draw_features<'a>(
     let near = around(canvas.window());
     let mut walk = features.near(near.west, near.north, near.east, near.south);
     while let Some(feature) = walk.next() {
-        draw_item(alloc, scaled, &mut table, Item::Feature(feature), canvas)?;
+        draw_shared(alloc, scaled, &mut table, feature, canvas)?;
     }
     Ok(())
 }
@@ -137,7 +163,7 @@ fn draw_each<'a>(
     alloc: Global,
     scaled: &ScaledStyle<'a>,
     table: &mut FilterTable<'a>,
-    features: &[&'a Feature],
+    features: &[&'a SharedFeature],
     canvas: &mut Canvas,
 ) -> Result<(), NoMemory>
     requires { table.old.filters ≡ filters_at scaled.now }
@@ -146,10 +172,10 @@ fn draw_each<'a>(
         canvas.old.image (map feature (map (λ f. f.now) features.now))) }
     ensures window { canvas.new.window ≡ canvas.old.window }
 {
-    let mut ahead = from_the_first(scaled.has_filter(), canvas.painted());
+    let mut ahead = from_the_first(canvas.painted());
     for k in 0..features.len() {
-        ahead.read(features, k, canvas.painted())?;
-        draw_item(alloc, scaled, table, Item::Feature(features[k]), canvas)?;
+        ahead.read(scaled, features, k, canvas.painted())?;
+        draw_shared(alloc, scaled, table, features[k], canvas)?;
     }
     Ok(())
 }
@@ -157,7 +183,7 @@ fn draw_each<'a>(
 fn draw_listed<'a>(
     alloc: Global,
     scaled: &ScaledStyle<'a>,
-    features: &[&'a Feature],
+    features: &[&'a SharedFeature],
     canvas: &mut Canvas,
 ) -> Result<(), NoMemory>
     ensures drawn { OnOk result (canvas.new.image

@@ -1,11 +1,12 @@
 -- The rules of a style that are chosen for an item, one after another.
-use Rattle.std.specs.Prelude.{ℕ, Bool, not, ◌&&◌, if◌then◌else◌, List, fold, map, filter, Option}
+use Rattle.std.specs.Prelude.{◌≡◌, ℕ, Bool, true, false, not, ◌&&◌, if◌then◌else◌, List, [], fold, map, filter, Option}
 use Rattle.farm_base.specs.declared.Attr.{Attr}
 use Rattle.plain_world.specs.declared.world.Window.{Window}
 use Rattle.plain_drawing.specs.Styles.{Rule, Style}
 use Rattle.plain_shapes.specs.Images.{Pixels}
 use Rattle.plain_filters.specs.Filters.{FilterTree}
-use Rattle.plain_drawing.specs.Rules.{at_scale, filter_holds}
+use Rattle.attribute_marks.specs.Marks.{HasMarks, Shares, Lacks}
+use Rattle.plain_drawing.specs.Rules.{at_scale, filter_holds, drawing_rules}
 use Rattle.plain_drawing.specs.Drawing.{Item}
 use Rattle.plain_drawing.specs.inner.Pictures.{with_symbolizer}
 use Rattle.tile_render.specs.declared.rules.Choice.{Choice}
@@ -36,3 +37,14 @@ with_rule w item image r = fold (with_symbolizer w item) image r.symbolizers
 -- the picture after a rule's symbolizers on an item if the rule is chosen, and else as it was
 unfoldable pub with_chosen : Window → Item → (Rule → Bool) → Pixels → Rule → Pixels
 with_chosen w item chosen image r = if chosen r then with_rule w item image r else image
+
+-- a Filter rule that, where its filter holds, has one of these marks among those of the attributes
+pub record RuleAsks (asked : ℕ) (r : Rule) : Type 0 where
+  pub is_filter : r.else_filter ≡ false
+  pub asks : (attrs : List Attr) (marks : ℕ) → HasMarks marks attrs
+      → filter_holds attrs r.filter ≡ true → Shares marks asked
+
+-- attributes that lack the marks meet no rule
+abbrev pub PassesOver : ℕ → ℕ → Style → Type 0
+PassesOver asked denominator s = (attrs : List Attr) → Lacks asked attrs
+    → drawing_rules attrs denominator s ≡ []

@@ -23,10 +23,10 @@ pub loop-feature-preserved : goal.loop-feature-preserved
 loop-feature-preserved c = record {
   drawn =
       one_drawn c.args.canvas.now.window c.loop-feature.canvas.window c.args.scaled.now.denominator c.args.scaled.now.style c.in-Some.feature.now c.loop-feature.walk c.next.new.self
-      c.loop-feature.canvas.image c.draw_item.new.canvas.image c.in-Some.ensures c.loop-feature.invariant.window c.in_ok-draw_item.ensures.drawn
+      c.loop-feature.canvas.image c.draw_shared.new.canvas.image c.in-Some.ensures c.loop-feature.invariant.window c.in_ok-draw_shared.ensures.drawn
       ∙ c.loop-feature.invariant.drawn;
-  window = c.draw_item.ensures.window ∙ c.loop-feature.invariant.window;
-  table = c.draw_item.ensures.table ∙ c.loop-feature.invariant.table;
+  window = c.draw_shared.ensures.window ∙ c.loop-feature.invariant.window;
+  table = c.draw_shared.ensures.table ∙ c.loop-feature.invariant.table;
 }
 
 pub returns-clause-drawn : goal.returns-clause-drawn

@@ -14,7 +14,7 @@ returns-in-Some c =
     rw (take_rest c.loop-place.here.now (c.in-Some.place + 1))
     (c.loop-place.invariant.left
     ∙ walk_finds (is_near around) c.loop-place.here.now rest c.in-Some.place c.index-here-place.result (sym c.first_answer.ensures.place ∙ c.in-Some.is)
-    ∙ ap (λ f. f ∷ filter (is_near around) (drop (c.in-Some.place + 1) c.loop-place.here.now ++ rest)) (sym c.index-here-place.is ∙ sym c.feature.ensures))
+    ∙ ap (λ f. f ∷ filter (is_near around) (drop (c.in-Some.place + 1) c.loop-place.here.now ++ rest)) (sym c.index-here-place.is))
 
 pub returns-then-from-count : goal.returns-then-from-count
 returns-then-from-count c =

@@ -9,5 +9,5 @@ pub returns : goal.returns
 returns c =
     made_of c.of.result (map (λ f. option_map tree_of f.now) c.as_slice-2.result.now) (filters_at c.args.self.now)
     (ap (map (λ f. option_map tree_of f.now)) c.as_slice-2.ensures.value ∙ c.in_ok-filters.ensures ∙ ap (map (λ r. r.now.filter)) c.as_slice.ensures.value
-    ∙ sym (of_both c.self.inside.rules.items) ∙ ap (map (λ r. r.filter)) c.self.invariant ∙ ap filters_at c.self.view_is)
+    ∙ sym (of_both c.self.inside.rules.items) ∙ ap (map (λ r. r.filter)) c.self.invariant.0 ∙ ap filters_at c.self.view_is)
     c.of.ensures
