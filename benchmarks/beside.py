@@ -299,10 +299,10 @@ def one(*symbolizers):
     return {"all": [(None, list(symbolizers))]}
 
 
-def beside_others(count):
-    """One style that draws, and so many of ten rules each that begin at zoom 17 (a denominator of 4,265)."""
+def beside_others(count, kind=None):
+    """One style that draws, all or one kind of ten, and so many of ten rules each that begin at zoom 17 (a denominator of 4,265)."""
     other = [(kind, [fill("#cc0000")], (0, 5000)) for kind in range(10)]
-    return {"all": Styled([one(fill("#336699"))["all"]] + [other] * count)}
+    return {"all": Styled([[(kind, [fill("#336699")])]] + [other] * count)}
 
 
 def layers_over_one(count):
@@ -362,6 +362,7 @@ CASES = {
     "layers64": (lambda: scattered(1000000, 64), layers_over_one(64), [18], HERE),
     "layers64_far": (lambda: scattered(1000000, 64), layers_over_one(64), [18], FAR),
     "inactive": (lambda: squares(100000), beside_others(20), [12, 14], HERE),
+    "filtered": (lambda: squares(100000), beside_others(20, 3), [12, 14], HERE),
     "deep": (lambda: tagged(20000), deep(), [14], HERE),
     "rules200": (lambda: generated(10000), many_rules(200), [14], HERE),
     "base": (roads_on_base, {"base": [(None, [{"symbolizer": "RasterSymbolizer", "opacity": "1"}])]} | one(stroke("#ffffff", 2)), [12, 14, 16, 18], HERE),

@@ -9,8 +9,9 @@ use plain_shapes::{Geometry, Path};
 // So many features are read together.
 const TOGETHER: usize = 32;
 
-// Where less is painted of so many features, the shapes of the next ones are not read: most of them are not asked for.
-const SOME: usize = 8;
+// Where less than one of so many features that were read was painted, the shapes of the next ones are not read: most of them
+// are not asked for.
+const SOME: usize = 4;
 
 fn first_path(geometry: &Geometry) -> Option<&Path> {
     match geometry {
@@ -49,23 +50,29 @@ fn read(feature: &Feature, has_names: bool, has_shape: bool) -> u64 {
     sum
 }
 
-/// How much was painted before the last features that were read together.
+/// Up to which feature all are read, of the last ones that were read together how many, and how much was painted before
+/// them.
 #[derive(Clone, Copy)]
 pub(crate) struct Ahead {
+    next: usize,
+    read: usize,
     painted: usize,
 }
 
-/// Nothing was read yet, and what is drawn first is thought to be painted.
+/// Nothing was read yet.
 pub(crate) fn from_the_first(painted: usize) -> Ahead {
     Ahead {
-        painted: painted.saturating_sub(SOME),
+        next: 0,
+        read: 0,
+        painted,
     }
 }
 
 impl Ahead {
-    /// Before the k-th feature, and so many others with it, are drawn, all of them that may be drawn are read: one after another they would
-    /// wait for memory, since what is painted between them takes their place in the nearest caches. That they are read
-    /// must be of some use, or it would be left out: more than a number counts is more than memory holds.
+    /// Before the k-th feature, and so many others with it, are drawn, all of them that may be drawn are read: one after
+    /// another they would wait for memory, since what is painted between them takes their place in the nearest caches.
+    /// That they are read must be of some use, or it would be left out: more than a number counts is more than memory
+    /// holds.
     pub(crate) fn read(
         &mut self,
         scaled: &ScaledStyle<'_>,
@@ -73,15 +80,21 @@ impl Ahead {
         k: usize,
         painted: usize,
     ) -> Result<(), NoMemory> {
-        if k % TOGETHER != 0 {
+        if k < self.next {
             return Ok(());
         }
-        let has_shapes = painted.saturating_sub(self.painted) >= SOME;
-        self.painted = painted;
         let has_names = scaled.has_filter();
+        let has_shapes = painted.saturating_sub(self.painted) >= self.read / SOME;
+        self.painted = painted;
+        self.read = 0;
         let mut sum = 0u64;
-        for n in k..features.len().min(k.saturating_add(TOGETHER)) {
+        for n in k..features.len() {
+            if self.read >= TOGETHER {
+                break;
+            }
+            self.next = n.saturating_add(1);
             if scaled.may_draw(features[n]) {
+                self.read = self.read.saturating_add(1);
                 sum = sum.saturating_add(read(features[n].feature(), has_names, has_shapes));
             }
         }
