@@ -229,6 +229,16 @@ def squares(count):
     return {"all": made}
 
 
+def houses(count):
+    """Houses of 4 to 15 metres, of ten kinds, in the quarter of the metatile of zoom 12 at the middle that is its north-west."""
+    west, north, side, _ = metatile(12, 2**11, 2**11)
+    draw, made = random.Random(13), []
+    for _ in range(count):
+        x, y, wide = west + draw.randrange(side // 2), north + draw.randrange(side // 2), 100 + draw.randrange(300)
+        made.append((draw.randrange(10), "polygon", [[[x, y], [x + wide, y], [x + wide, y + wide], [x, y + wide]]]))
+    return {"all": made}
+
+
 # A picture of 1,024 by 1,024 pixels, two of zoom 12 each, that lies over the metatile of zoom 12 at the middle.
 BASE_SIDE = 1024
 
@@ -363,6 +373,7 @@ CASES = {
     "layers64_far": (lambda: scattered(1000000, 64), layers_over_one(64), [18], FAR),
     "inactive": (lambda: squares(100000), beside_others(20), [12, 14], HERE),
     "filtered": (lambda: squares(100000), beside_others(20, 3), [12, 14], HERE),
+    "houses": (lambda: houses(100000), beside_others(20), [12, 14], HERE),
     "deep": (lambda: tagged(20000), deep(), [14], HERE),
     "rules200": (lambda: generated(10000), many_rules(200), [14], HERE),
     "base": (roads_on_base, {"base": [(None, [{"symbolizer": "RasterSymbolizer", "opacity": "1"}])]} | one(stroke("#ffffff", 2)), [12, 14, 16, 18], HERE),

@@ -1,11 +1,12 @@
 -- Marks as bits.
-use Rattle.std.proofs.Common.{◌≡◌, ℕ, ◌+◌, ◌*◌, ◌%◌, ◌^◌, ◌<◌, List, ap, sym, ◌∙◌, subst, get_or, length, take, arith}
+use Rattle.std.proofs.Common.{◌≡◌, ℕ, zero, suc, ◌+◌, ◌*◌, ◌/◌, ◌%◌, ◌^◌, ◌<◌, ◌≤◌, List, ap, sym, ◌∙◌, subst, get_or, length, take, inl, inr, arith}
 use Rattle.std.specs.Int.{bit_at, w64}
 use Rattle.std.specs.Int.RustNames.{bit_or}
 use lib.Bits.{bit_and}
 use Rattle.std.proofs.lemmas.List.Elements.{All-more, All-weaker}
 use Rattle.std.proofs.lemmas.Nat.{one_shl}
-use Rattle.std.proofs.lemmas.Nat.Bits.{bit_at_or, bit_at_and, bit_at-lt, bit_at-zero, bit_at_set_same, bit_at-pow_same}
+use Rattle.std.proofs.lemmas.Bool.{cases_eq}
+use Rattle.std.proofs.lemmas.Nat.Bits.{bit_at_or, bit_at_and, bit_at-lt, bit_at-zero, bit_at-suc, bit_at_lowest, bit_at_set_same, bit_at-pow_same}
 use Rattle.farm_base.specs.declared.Attr.{Attr}
 use Rattle.attribute_marks.specs.Marks.{mark_of, HasMarks, Shares}
 
@@ -36,3 +37,20 @@ none_shared marks asked none s =
     let both : bit_at (bit_and marks asked) s.mark ≡ 1 = omega (arith, bit_at_and marks asked s.mark, s.there, s.is_asked) in
     let zero : bit_at (bit_and marks asked) s.mark ≡ 0 = ap (λ n. bit_at n s.mark) none ∙ bit_at-zero s.mark in
     omega (arith, both, zero)
+
+-- a number that is not 0 has a bit
+some_bit : (k n : ℕ) → n ≤ k → (n ≡ 0 → ⊥) → (i : ℕ) × (bit_at n i ≡ 1)
+some_bit zero n few some = absurd (some (omega (arith, few)))
+some_bit (suc k) n few some = elim (cases_eq (n % 2) 1) [
+  | inl odd ↦ (0, bit_at_lowest n ∙ odd)
+  | inr even ↦ (let rest = some_bit k (n / 2) (omega (arith, few)) (λ none. some (omega (arith, none, even))) in (suc rest.0, bit_at-suc n rest.0 ∙ rest.1))
+]
+
+-- a bit in common is a mark that both have
+pub one_shared : (marks asked : ℕ) → (bit_and marks asked ≡ 0 → ⊥) → Shares marks asked
+one_shared marks asked some =
+    let bit = some_bit (bit_and marks asked) (bit_and marks asked) (omega arith) some in record {
+      mark = bit.0;
+      there = omega (arith, bit_at_and marks asked bit.0, bit.1, bit_at-lt marks bit.0);
+      is_asked = omega (arith, bit_at_and marks asked bit.0, bit.1, bit_at-lt asked bit.0);
+    }

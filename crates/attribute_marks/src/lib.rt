@@ -1,8 +1,8 @@
 //! Marks of attributes: a feature that has none of the marks which a filter asks for has no attribute that it asks for, so
 //! that most features are passed over without a look at them.
 //!
-//! What is proved: `marks_of` has the mark of each attribute; two numbers of marks that do not share one have none in
-//! common.
+//! What is proved: each mark is that of its name and value, and below 64; `marks_of` sets the bit of each attribute's mark
+//! (that it sets no other is in no contract: a mark more passes over less); `shares` says whether a bit is set in both.
 #![tactic(auto)]
 
 mod marks;

@@ -1,5 +1,5 @@
 //! The marks of attributes, as the bits of a number.
-ghost use Rattle.std.specs.Prelude.{◌≡◌, ◌<◌, false};
+ghost use Rattle.std.specs.Prelude.{◌≡◌, ◌<◌, true, false};
 ghost use Rattle.farm_base.specs.declared.Value.TheVariants.{Truth, Whole, Text};
 ghost use Rattle.attribute_marks.specs.Marks.{mixed, mark_of, HasMarks, Shares};
 
@@ -53,7 +53,7 @@ fn mark_of(attr: &Attr) -> u32
     }
 }
 
-/// The marks of attributes: the bits of their numbers, and no other.
+/// The marks of attributes: a number in which the bit of each one's mark is set.
 pub fn marks_of(attrs: &[Attr]) -> u64
     ensures { HasMarks result attrs.now }
 {
@@ -66,7 +66,8 @@ pub fn marks_of(attrs: &[Attr]) -> u64
 
 /// Whether marks and those that are asked for have one in common.
 pub fn shares(marks: u64, asked: u64) -> bool
-    ensures { result ≡ false → Shares marks asked → ⊥ }
+    ensures some { result ≡ true → Shares marks asked }
+    ensures none { result ≡ false → Shares marks asked → ⊥ }
 {
     marks & asked != 0
 }

@@ -1,11 +1,11 @@
 -- Bits that stand for cells, and why cells that share no bit hold no common point.
-use Rattle.std.proofs.Common.{◌≡◌, ℕ, get_or, ◌+◌, ◌-◌, ◌*◌, ◌/◌, ◌%◌, ◌^◌, ◌<◌, ◌≤◌, sym, ap, ◌∙◌, subst, inl, inr, arith}
+use Rattle.std.proofs.Common.{◌≡◌, ℕ, suc, get_or, ◌+◌, ◌-◌, ◌*◌, ◌/◌, ◌%◌, ◌^◌, ◌<◌, ◌≤◌, sym, ap, ◌∙◌, subst, inl, inr, arith}
 use Rattle.std.specs.Prelude.{true, false, ◌||◌, nat_lt, min, max, List, [], ◌∷◌, length, take, set, All}
 use Rattle.std.specs.List.{AllByRecursion, list_any}
 use Rattle.std.proofs.lemmas.Bool.Decides.{nat_tests}
 use Rattle.std.proofs.lemmas.List.{get_or-set_same, get_or-set_other}
 use Rattle.std.proofs.lemmas.List.Elements.{All-more, All-weaker, recursion_from_All}
-use Rattle.std.specs.Int.{bit_at, w64}
+use Rattle.std.specs.Int.{bit_at}
 use Rattle.std.specs.Int.RustNames.{bit_or}
 use lib.Bits.{bit_and}
 use Rattle.std.proofs.lemmas.Bool.{cases_eq, false_from_ne_true}
@@ -21,8 +21,8 @@ use Rattle.data_versions.specs.inner.Cells.{scale_of, part_of, row_of, column_of
 use Rattle.data_versions.specs.declared.extent.Extent.{Extent}
 use Rattle.data_versions.specs.inner.Extents.{IsIn}
 use Rattle.std.proofs.Math.Nat.{div-mul-le_self, mul-le-mul_right}
-use Rattle.std.proofs.lemmas.Nat.{le-div}
-use Rattle.std.proofs.lemmas.Nat.Bits.{bit_at_or, bit_at_and, bit_at-lt, bit_at-zero, bit_at_set_same}
+use Rattle.std.proofs.lemmas.Nat.{le-div, one_shl, pow_below, pow_pos}
+use Rattle.std.proofs.lemmas.Nat.Bits.{bit_at_or, bit_at_and, bit_at-lt, bit_at-zero, bit_at_mask_inside}
 use Rattle.geo_model.proofs.Boxes.{fewest_some}
 
 -- a bit that is set stays set
@@ -36,13 +36,24 @@ or_right a b k h = omega (arith, bit_at_or a b k, bit_at-lt a k)
 pub in_both : (a b k : ℕ) → bit_at a k ≡ 1 → bit_at b k ≡ 1 → bit_at (bit_and a b) k ≡ 1
 in_both a b k g h = omega (arith, bit_at_and a b k)
 
--- one more column
-pub column_more : (n first column : ℕ) → column < 64 → ((i : ℕ) → first ≤ i → i < column → bit_at n i ≡ 1)
-    → (i : ℕ) → first ≤ i → i < column + 1 → bit_at (bit_or n (1 * 2 ^ column % 2 ^ 64)) i ≡ 1
-column_more n first column small marked i from below = elim (cases_eq i column) [
-  | inl e ↦ subst (λ (x : ℕ). bit_at (bit_or n (1 * 2 ^ column % 2 ^ 64)) x ≡ 1) (sym e) (bit_at_set_same w64 n column small)
-  | inr other ↦ or_left n (1 * 2 ^ column % 2 ^ 64) i (marked i from (omega arith))
+-- the difference of two powers, the greater of which may be one that is lost
+powers_apart : (high low : ℕ) → high ≤ 2 ^ 64 → 1 ≤ low → low ≤ high → (high % 2 ^ 64 + (2 ^ 64 - low)) % 2 ^ 64 ≡ high - low
+powers_apart high low most some order = omega (arith, most, some, order)
+
+pow_most : (last : ℕ) → last < 64 → 2 * 2 ^ last ≤ 2 ^ 64
+pow_most last few = elim (cases_eq last 63) [
+  | inl e ↦ subst (λ (n : ℕ). 2 * 2 ^ n ≤ 2 ^ 64) (sym e) (omega arith)
+  | inr other ↦ omega (arith, pow_below (suc last) 64 (omega (arith, few, other)))
 ]
+
+-- the columns from the first to the last
+pub between_set : (first last : ℕ) → last < 64 → (i : ℕ) → first ≤ i → i ≤ last → bit_at ((2 * 2 ^ last % 2 ^ 64 + (2 ^ 64 - 1 * 2 ^ first % 2 ^ 64)) % 2 ^ 64) i ≡ 1
+between_set first last few i from to =
+    let least : 2 ^ first ≤ 2 * 2 ^ last = omega (arith, pow_below first (suc last) (omega arith)) in
+    let twice : 2 * 2 ^ last ≡ 2 ^ suc last = omega arith in
+    ap (λ n. bit_at ((2 * 2 ^ last % 2 ^ 64 + (2 ^ 64 - n)) % 2 ^ 64) i) (one_shl first 64 (omega arith))
+    ∙ ap (λ n. bit_at n i) (powers_apart (2 * 2 ^ last) (2 ^ first) (pow_most last few) (pow_pos first) least)
+    ∙ ap (λ n. bit_at (n - 2 ^ first) i) twice ∙ bit_at_mask_inside first (suc last) i from (omega arith)
 
 -- columns that are added to a row: what was set stays set, and they are set
 pub row_kept : (rows : List ℕ) (row columns k i : ℕ) → row < length rows → bit_at (get_or rows k 0) i ≡ 1

@@ -63,15 +63,14 @@ fn part_at(low: u32, high: u32, place: u32, scale: u64) -> u32
     (u64::from(place - low) * scale / SHARES_OF_CELL) as u32
 }
 
+// Where the last column is the last of all, its neighbour's bit is lost, and the difference is right without it.
 fn columns_between(first: u32, last: u32) -> u64
-    requires { last < 64 }
+    requires first { first < 64 }
+    requires last { last < 64 }
     ensures { (i : ℕ) → first ≤ i → i ≤ last → bit_at result i ≡ 1 }
 {
-    let mut columns = 0u64;
-    for column in first..last + 1 {
-        columns |= 1 << column;
-    }
-    columns
+    let behind: u64 = 2 << last;
+    behind.wrapping_sub(1 << first)
 }
 
 impl Grid {

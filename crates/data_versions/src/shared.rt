@@ -90,7 +90,7 @@ impl SharedFeature {
     }
 
     /// The feature's box.
-    pub(crate) fn bbox(&self) -> Bounds
+    pub fn bbox(&self) -> Bounds
         ensures value { result ≡ box_of self.now }
         ensures wide { IsWide result }
     {

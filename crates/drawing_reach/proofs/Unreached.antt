@@ -82,7 +82,7 @@ all_missed w f each (s ∷ ss) h image =
 
 -- ---- the symbolizers that an item meets are those of rules of the style
 
-filtered : {X : Type 0} (P : X → Type 0) (p : X → Bool) (xs : List X) → AllByRecursion P xs → AllByRecursion P (filter p xs)
+pub filtered : {X : Type 0} (P : X → Type 0) (p : X → Bool) (xs : List X) → AllByRecursion P xs → AllByRecursion P (filter p xs)
 filtered P p [] h = tt
 filtered P p (x ∷ xs) h = by (p x) (filtered P p xs h.1)
   where
@@ -96,11 +96,11 @@ took P zero (x ∷ xs) h = tt
 took P (suc n) [] h = tt
 took P (suc n) (x ∷ xs) h = (h.0, took P n xs h.1)
 
-taken_all : (P : Rule → Type 0) (m : FilterMode) (rules : List Rule) → AllByRecursion P rules → AllByRecursion P (first_or_all m rules)
+pub taken_all : (P : Rule → Type 0) (m : FilterMode) (rules : List Rule) → AllByRecursion P rules → AllByRecursion P (first_or_all m rules)
 taken_all P AllRules rules h = h
 taken_all P First rules h = took P 1 rules h
 
-choose : (b : Bool) (P : Rule → Type 0) (xs ys : List Rule) → AllByRecursion P xs → AllByRecursion P ys → AllByRecursion P (if b then xs else ys)
+pub choose : (b : Bool) (P : Rule → Type 0) (xs ys : List Rule) → AllByRecursion P xs → AllByRecursion P ys → AllByRecursion P (if b then xs else ys)
 choose true P xs ys h k = h
 choose false P xs ys h k = k
 

@@ -75,7 +75,8 @@ parts_more asked more parts i part within here before asks =
     (All-weaker (λ (e : Expr). AsksFor asked (tree_of e)) (λ (e : Expr). AsksFor (bit_or asked more) (tree_of e)) (λ e h. asks_more asked more (tree_of e) h) (take i parts) before)
     (subst (λ (e : Expr). AsksFor (bit_or asked more) (tree_of e)) here (asks_added asked more (tree_of part) asks))
 
-either : (a b : Bool) → (a || b) ≡ true → (a ≡ true) ⊎ (b ≡ true)
+-- one of two tests that one at least of them passes
+pub either : (a b : Bool) → (a || b) ≡ true → (a ≡ true) ⊎ (b ≡ true)
 either true b e = inl refl
 either false b e = inr e
 

@@ -110,7 +110,7 @@ drawing_active attrs d s rules active =
     ∙ ap (λ rs. if list_any (matches attrs d) s.rules then first_or_all s.filter_mode (filter (matches attrs d) s.rules) else rs)
     (sym (filter_both (at_scale d) (λ r. r.else_filter) (is_fallback d) (λ r. refl) s.rules))
 
-active_item : (w : Window) (d : ℕ) (s : Style) (rules : List Rule) (item : Item) (image : Pixels) → rules ≡ filter (at_scale d) s.rules
+pub active_item : (w : Window) (d : ℕ) (s : Style) (rules : List Rule) (item : Item) (image : Pixels) → rules ≡ filter (at_scale d) s.rules
     → fold (with_symbolizer w item) image (flat_map (λ r. r.symbolizers) (taken_of (item_attrs item) s rules)) ≡ with_item w d s image item
 unfolding with_item
 active_item w d s rules item image active =

@@ -12,6 +12,7 @@ use Rattle.std.proofs.lemmas.List.Elements.{All-push, All-weaker}
 use Rattle.std.proofs.lemmas.List.Folds.{list_any-append, list_any_none, list_any_more, list_any_at}
 use Rattle.std.proofs.lemmas.Bool.Decides.{same_from_decides}
 use Rattle.tiled_image.proofs.JoinedRuns.{run_at}
+use Rattle.filter_expr.proofs.Marked.{either}
 use Rattle.plain_world.specs.declared.world.Point.{Point}
 use Rattle.plain_world.specs.declared.world.Window.{Window}
 use Rattle.plain_world.specs.World.{centre, centres}
@@ -48,10 +49,6 @@ held j i p h =
 off_piece : (j i : ℕ) (p : Piece) → (Held j i p → ⊥) → has j i p ≡ false
 off_piece j i p out = false_from_ne_true (has j i p) (λ e. out (held j i p e))
 
-or_split : (a b : Bool) → (a || b) ≡ true → (a ≡ true) ⊎ (b ≡ true)
-or_split true b e = inl refl
-or_split false b e = inr e
-
 -- ---- pieces joined
 
 -- the first k pieces are joined: those that are kept, and the last one
@@ -77,7 +74,7 @@ merged_has j i last piece end row from touches left right which = same_from_deci
         ]
 
     back : (has j i last || has j i piece) ≡ true → has j i (record last { end = end }) ≡ true
-    back e = elim (or_split _ _ e) [
+    back e = elim (either _ _ e) [
       | inl a ↦ (let h = held j i last a in in_piece j i (record last { end = end }) (record { row = h.row; from = h.from; to = omega (arith, h.to) }))
       | inr b ↦ (let h = held j i piece b in in_piece j i (record last { end = end }) (record { row = h.row ∙ row; from = omega (arith, h.from); to = omega (arith, h.to) }))
     ]

@@ -50,8 +50,7 @@ fn read(feature: &Feature, has_names: bool, has_shape: bool) -> u64 {
     sum
 }
 
-/// Up to which feature all are read, of the last ones that were read together how many, and how much was painted before
-/// them.
+/// Up to which feature all are read, how many of them were read together, and how much was painted before these.
 #[derive(Clone, Copy)]
 pub(crate) struct Ahead {
     next: usize,
@@ -69,10 +68,9 @@ pub(crate) fn from_the_first(painted: usize) -> Ahead {
 }
 
 impl Ahead {
-    /// Before the k-th feature, and so many others with it, are drawn, all of them that may be drawn are read: one after
-    /// another they would wait for memory, since what is painted between them takes their place in the nearest caches.
-    /// That they are read must be of some use, or it would be left out: more than a number counts is more than memory
-    /// holds.
+    /// Before the k-th feature is drawn, it is read, and so many others with it: one after another they would wait for
+    /// memory, since what is painted between them takes their place in the nearest caches. That they are read must be of
+    /// some use, or it would be left out: more than a number counts is more than memory holds.
     pub(crate) fn read(
         &mut self,
         scaled: &ScaledStyle<'_>,
@@ -86,17 +84,11 @@ impl Ahead {
         let has_names = scaled.has_filter();
         let has_shapes = painted.saturating_sub(self.painted) >= self.read / SOME;
         self.painted = painted;
-        self.read = 0;
+        self.next = features.len().min(k.saturating_add(TOGETHER));
+        self.read = self.next.saturating_sub(k);
         let mut sum = 0u64;
-        for n in k..features.len() {
-            if self.read >= TOGETHER {
-                break;
-            }
-            self.next = n.saturating_add(1);
-            if scaled.may_draw(features[n]) {
-                self.read = self.read.saturating_add(1);
-                sum = sum.saturating_add(read(features[n].feature(), has_names, has_shapes));
-            }
+        for n in k..self.next {
+            sum = sum.saturating_add(read(features[n].feature(), has_names, has_shapes));
         }
         if sum == u64::MAX {
             return Err(NoMemory);

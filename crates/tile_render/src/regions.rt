@@ -1,8 +1,8 @@
 //! The region of a window that is near a feature, so that no more than its pixels is looked at.
-ghost use Rattle.std.specs.Prelude.{◌≡◌, ℕ, ◌+◌, ◌*◌, ◌^◌, ◌<◌, ◌≤◌, IfSome, MatchOption};
+ghost use Rattle.std.specs.Prelude.{◌≡◌, ℕ, ◌+◌, ◌*◌, ◌^◌, ◌<◌, ◌≤◌, false, IfSome, MatchOption};
 ghost use Rattle.plain_world.specs.World.{IsWindow, centre};
 ghost use Rattle.drawing_reach.specs.inner.Spreads.{Beside};
-ghost use Rattle.tile_render.specs.inner.Regions.{IsRegion, InRegion, region_window, around};
+ghost use Rattle.tile_render.specs.inner.Regions.{IsRegion, InRegion, HasNoCentre, region_window, around};
 
 use centre_spans::first_at;
 use geo_model::Bounds;
@@ -64,6 +64,17 @@ pub(crate) fn region_near(w: Window, b: Bounds, across: u64, down: u64) -> Optio
     } else {
         None
     }
+}
+
+/// Whether a centre of the window may lie in the rectangle; of one that is as wide and as high as a pixel, that lies near the
+/// window, it is not asked.
+pub(crate) fn may_have_centre(w: Window, b: Bounds) -> bool
+    requires { IsWindow w }
+    ensures { result ≡ false → HasNoCentre w b }
+{
+    let across = b.east.saturating_sub(b.west);
+    let down = b.south.saturating_sub(b.north);
+    (across >= w.pixel && down >= w.pixel) || region_near(w, b, 0, 0).is_some()
 }
 
 /// The window's rectangle widened by 64 pixels on each side, and cut to the world: what no feature farther

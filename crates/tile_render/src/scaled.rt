@@ -1,27 +1,34 @@
 //! A style at a scale.
-ghost use Rattle.std.specs.Prelude.{◌≡◌, ◌*◌, ◌^◌, ◌<◌, false, IfOk, IfSome, All, [], map, filter, option_map};
+ghost use Rattle.std.specs.Prelude.{◌≡◌, ℕ, ◌*◌, ◌^◌, ◌<◌, false, IfOk, IfSome, All, [], map, filter, option_map};
+ghost use Rattle.std.specs.List.{list_all};
 ghost use Rattle.plain_filters.specs.Filters.{tree_of};
 ghost use Rattle.plain_drawing.specs.Rules.{at_scale, drawing_rules};
 ghost use Rattle.plain_drawing.specs.Styles.{KeepsRanges};
-ghost use Rattle.tile_render.specs.inner.Chosen.{filters_at, RuleAsks};
+ghost use Rattle.plain_world.specs.World.{IsWindow};
+ghost use Rattle.plain_drawing.specs.Drawing.{feature};
+ghost use Rattle.tile_render.specs.inner.Chosen.{filters_at, only_fills, RuleAsks, LeavesAll};
 
+use crate::covers::is_fill;
+use crate::regions::may_have_centre;
 use data_versions::SharedFeature;
 use farm_base::NoMemory;
 use filter_expr::{FilterTable, asked_marks};
 use plain_drawing::{FilterMode, Rule, Style};
 use plain_filters::Expr;
+use plain_world::Window;
 use scale_rules::active;
 use std::alloc::Global;
 use std::marker::Model;
 
-/// A style at a scale: those of its rules that are at scale, in order, chosen once for all items; and marks of attributes
-/// of which an item has one where a rule draws it, if it is known that it has.
+/// A style at a scale: those of its rules that are at scale, in order, chosen once for all items; marks of attributes of
+/// which an item has one where a rule draws it, if it is known that it has; and whether all that these rules do is to fill.
 #[derive(Drop)]
 pub(crate) struct ScaledStyle<'a> {
     style: &'a Style,
     denominator: u64,
     rules: Vec<&'a Rule>,
     asked: Option<u64>,
+    just_fills: bool,
 }
 
 impl<'a> Model for ScaledStyle<'a> {
@@ -29,7 +36,8 @@ impl<'a> Model for ScaledStyle<'a> {
     ghost use Rattle.plain_drawing.specs.Rules.{at_scale};
     ghost use Rattle.plain_filters.specs.inner.FilterCodes.{filter_code};
     ghost use Rattle.std.specs.Coded.{codes};
-    ghost use Rattle.tile_render.specs.inner.Chosen.{Scaled, PassesOver};
+    ghost use Rattle.std.specs.List.{list_all};
+    ghost use Rattle.tile_render.specs.inner.Chosen.{Scaled, PassesOver, only_fills};
 
     ghost Value = { Scaled };
 
@@ -39,7 +47,8 @@ impl<'a> Model for ScaledStyle<'a> {
 
     ghost invariant = { λ s. (map (λ r. r.now) s.rules.items
         ≡ filter (at_scale s.denominator) s.style.now.rules)
-        × IfSome s.asked (λ asked. PassesOver asked s.denominator s.style.now) };
+        × IfSome s.asked (λ asked. PassesOver asked s.denominator s.style.now)
+        × (s.just_fills ≡ list_all (λ r. only_fills r.now) s.rules.items) };
 }
 
 fn at_scale(rule: &Rule, denominator: u64) -> bool
@@ -95,6 +104,20 @@ fn marks_of_rules(rules: &[&Rule]) -> Option<u64>
     Some(asked)
 }
 
+fn only_fills(rule: &Rule) -> bool
+    ensures { result ≡ only_fills rule.now }
+{
+    rule.symbolizers
+        .iter()
+        .all(|symbolizer| is_fill(*symbolizer))
+}
+
+fn all_only_fill(rules: &[&Rule]) -> bool
+    ensures { result ≡ list_all (λ r. only_fills r.now) rules.now }
+{
+    rules.iter().all(|rule| only_fills(rule))
+}
+
 fn filters_of<'a>(alloc: Global, rules: &[&'a Rule]) -> Result<Vec<&'a Option<Expr>>, NoMemory>
     ensures { IfOk result (λ v. map (λ f. option_map tree_of f.now) v.items
         ≡ map (λ r. r.now.filter) rules.now) }
@@ -120,11 +143,13 @@ impl<'a> ScaledStyle<'a> {
     {
         let rules = active_rules(alloc, style.rules.as_slice(), denominator)?;
         let asked = marks_of_rules(rules.as_slice());
+        let just_fills = all_only_fill(rules.as_slice());
         Ok(ScaledStyle {
             style,
             denominator,
             rules,
             asked,
+            just_fills,
         })
     }
 
@@ -144,8 +169,22 @@ impl<'a> ScaledStyle<'a> {
         FilterTable::of(alloc, filters.as_slice())
     }
 
-    /// Whether a rule may draw the feature, by the marks of its attributes; if not, none does.
-    pub(crate) fn may_draw(&self, shared: &SharedFeature) -> bool
+    /// Whether it is known of some features that it does not draw them.
+    pub(crate) fn passes_over(&self) -> bool {
+        self.just_fills || self.asked.is_some()
+    }
+
+    /// Whether the feature may be drawn in the window, by the marks of its attributes and by its box; if not, the picture
+    /// stays as it is.
+    pub(crate) fn may_draw(&self, w: Window, shared: &SharedFeature) -> bool
+        requires { IsWindow w }
+        ensures { result ≡ false → LeavesAll w self.now (feature shared.now) }
+    {
+        self.may_match(shared) && self.may_paint(w, shared)
+    }
+
+    // Whether a rule may match the feature, by the marks of its attributes.
+    fn may_match(&self, shared: &SharedFeature) -> bool
         ensures { result ≡ false
             → drawing_rules shared.now.attrs self.now.denominator self.now.style ≡ [] }
     {
@@ -153,6 +192,14 @@ impl<'a> ScaledStyle<'a> {
             Some(asked) => shared.may_have(asked),
             None => true,
         }
+    }
+
+    // Whether a rule that matches the feature may paint a pixel: what is filled has the centre of each that it paints.
+    fn may_paint(&self, w: Window, shared: &SharedFeature) -> bool
+        requires { IsWindow w }
+        ensures { result ≡ false → LeavesAll w self.now (feature shared.now) }
+    {
+        !self.just_fills || may_have_centre(w, shared.bbox())
     }
 
     /// Whether one of its rules that are at scale has a filter. No proof rests on it.

@@ -1,8 +1,9 @@
 //! The pass of a style over items, and the rules that each item meets.
-ghost use Rattle.std.specs.Prelude.{◌≡◌, ◌+◌, ◌*◌, ◌^◌, ◌<◌, OnOk, fold, map, drop, length};
+ghost use Rattle.std.specs.Prelude.{◌≡◌, ◌+◌, ◌*◌, ◌^◌, ◌<◌, IfOk, OnOk, fold, map, drop, length};
+ghost use Rattle.plain_world.specs.World.{IsWindow};
 ghost use Rattle.plain_drawing.specs.Drawing.{feature, item_attrs};
 ghost use Rattle.plain_drawing.specs.inner.Pictures.{with_item, with_style};
-ghost use Rattle.tile_render.specs.inner.Chosen.{filters_at, is_chosen, with_rule, with_chosen};
+ghost use Rattle.tile_render.specs.inner.Chosen.{filters_at, is_chosen, with_rule, with_chosen, DrawsAs};
 ghost use Rattle.tile_render.specs.inner.Items.{item_of, items_in};
 ghost use Rattle.tile_render.specs.inner.Nearby.{IsSource, FromData};
 ghost use Rattle.tile_render.specs.inner.Regions.{around};
@@ -19,6 +20,7 @@ use data_versions::{LayerView, SharedFeature};
 use farm_base::NoMemory;
 use filter_expr::FilterTable;
 use plain_drawing::{FilterMode, Rule, Style};
+use plain_world::Window;
 use std::alloc::Global;
 
 // Draws an item by a rule, whatever its filter and scales: each symbolizer in order.
@@ -109,7 +111,7 @@ fn draw_item<'a>(
     }
 }
 
-// Draws a feature by a style. It is not looked at where the marks of its attributes say that no rule draws it.
+// Draws a feature by a style. It is not looked at where it is known that it is not drawn.
 fn draw_shared<'a>(
     alloc: Global,
     scaled: &ScaledStyle<'a>,
@@ -124,7 +126,7 @@ fn draw_shared<'a>(
     ensures window { canvas.new.window ≡ canvas.old.window }
     ensures table { table.new.filters ≡ table.old.filters }
 {
-    if !scaled.may_draw(shared) {
+    if !scaled.may_draw(canvas.window(), shared) {
         return Ok(());
     }
     draw_item(
@@ -159,6 +161,27 @@ fn draw_features<'a>(
     Ok(())
 }
 
+// Those of the features of which it is not known that the style does not draw them in the window, in order.
+fn drawable<'a>(
+    alloc: Global,
+    scaled: &ScaledStyle<'_>,
+    w: Window,
+    features: &[&'a SharedFeature],
+) -> Result<Vec<&'a SharedFeature>, NoMemory>
+    requires { IsWindow w }
+    ensures { IfOk result (λ chosen. DrawsAs w scaled.now (map (λ f. f.now) chosen.items)
+        (map (λ f. f.now) features.now)) }
+{
+    let mut chosen = Vec::new(alloc);
+    for feature in features {
+        let feature: &'a SharedFeature = *feature;
+        if scaled.may_draw(w, feature) {
+            chosen.push(feature)?;
+        }
+    }
+    Ok(chosen)
+}
+
 fn draw_each<'a>(
     alloc: Global,
     scaled: &ScaledStyle<'a>,
@@ -175,7 +198,8 @@ fn draw_each<'a>(
     let mut ahead = from_the_first(canvas.painted());
     for k in 0..features.len() {
         ahead.read(scaled, features, k, canvas.painted())?;
-        draw_shared(alloc, scaled, table, features[k], canvas)?;
+        let feature = features[k].feature();
+        draw_item(alloc, scaled, table, Item::Feature(feature), canvas)?;
     }
     Ok(())
 }
@@ -195,7 +219,11 @@ fn draw_listed<'a>(
         return Ok(());
     }
     let mut table = scaled.filters(alloc)?;
-    draw_each(alloc, scaled, &mut table, features, canvas)
+    if !scaled.passes_over() {
+        return draw_each(alloc, scaled, &mut table, features, canvas);
+    }
+    let chosen = drawable(alloc, scaled, canvas.window(), features)?;
+    draw_each(alloc, scaled, &mut table, chosen.as_slice(), canvas)
 }
 
 // Draws the features of a layer of data by a style, in order: those that are kept of it, where they are kept.

@@ -11,6 +11,7 @@ use Rattle.plain_shapes.specs.Images.{Pixels}
 use Rattle.plain_shapes.specs.inner.Canvas.{at_centres}
 use Rattle.plain_drawing.specs.Drawing.{covers}
 use Rattle.geo_model.specs.declared.bounds.Bounds.{Bounds}
+use Rattle.drawing_reach.specs.inner.Spreads.{Beside}
 use Rattle.tile_render.specs.declared.regions.Region.{Region}
 use Rattle.plain_shapes.specs.Limits.{most_width}
 
@@ -52,6 +53,10 @@ pub record Tells (w : Window) (r : Region) (member : Point → Bool) (bits : Lis
   pub at : (j i : ℕ) → j < r.rows → i < r.cols
       → slice_index_or bits (j * r.cols + i) false ≡ member (centre w (r.col + i) (r.row + j))
   pub holds : Holds w r member
+
+-- no centre of the window lies in the rectangle
+abbrev pub HasNoCentre : Window → Bounds → Type 0
+HasNoCentre w b = (j i : ℕ) → i < w.cols → j < w.rows → Beside b 0 0 (centre w i j) → ⊥
 
 -- the colour painted over at a member, and as it was elsewhere
 abbrev pub over_member : (Point → Bool) → Colour → ℕ → Point → Colour → Colour
