@@ -2,9 +2,10 @@
 
 use crate::scaled::ScaledStyle;
 use data_versions::SharedFeature;
-use farm_base::{Attr, NoMemory};
+use farm_base::NoMemory;
 use geo_model::Feature;
-use plain_shapes::{Geometry, Path};
+use plain_shapes::Geometry;
+use plain_world::Point;
 
 // So many features are read together.
 const TOGETHER: usize = 32;
@@ -13,39 +14,79 @@ const TOGETHER: usize = 32;
 // are not asked for.
 const SOME: usize = 4;
 
-fn first_path(geometry: &Geometry) -> Option<&Path> {
-    match geometry {
+/// What of features is asked for when they are drawn: their attributes, their shapes.
+#[derive(Clone, Copy)]
+struct Asked {
+    attrs: bool,
+    shape: bool,
+}
+
+/// How far what is read lies from the feature: in itself, in the lists that it has, in what these have.
+#[derive(Clone, Copy)]
+enum Distance {
+    Itself,
+    Lists,
+    Ends,
+}
+
+fn first_name(feature: &Feature) -> &[u8] {
+    match feature.attrs().first() {
+        Some(attr) => attr.name.as_str().as_bytes(),
+        None => &[],
+    }
+}
+
+fn first_points(feature: &Feature) -> &[Point] {
+    let path = match feature.geometry() {
         Geometry::Points(path) => Some(path),
         Geometry::Lines(lines) => lines.as_slice().first(),
         Geometry::Polygon(rings) => rings.as_slice().first(),
+    };
+    match path {
+        Some(path) => path.points.as_slice(),
+        None => &[],
     }
 }
 
-fn first_place(geometry: &Geometry) -> u64 {
-    match first_path(geometry) {
-        Some(path) => match path.points.first() {
+fn name_number(feature: &Feature, distance: Distance) -> u64 {
+    let name = first_name(feature);
+    match distance {
+        Distance::Ends => u64::from(name.first().copied().unwrap_or(0)),
+        _ => name.len() as u64,
+    }
+}
+
+fn shape_number(feature: &Feature, distance: Distance) -> u64 {
+    let points = first_points(feature);
+    match distance {
+        Distance::Ends => match points.first() {
             Some(point) => u64::from(point.x),
             None => 0,
         },
-        None => 0,
+        _ => points.len() as u64,
     }
 }
 
-fn name_len(attrs: &[Attr]) -> u64 {
-    match attrs.first() {
-        Some(attr) => attr.name.as_str().len() as u64,
-        None => 0,
+// Some numbers of the feature together, of each part of it that is asked for one, that lie so far away.
+fn number(feature: &Feature, asked: Asked, distance: Distance) -> u64 {
+    if let Distance::Itself = distance {
+        return u64::from(feature.bbox().west).saturating_add(feature.attrs().len() as u64);
     }
+    let mut sum = 0u64;
+    if asked.attrs {
+        sum = name_number(feature, distance);
+    }
+    if asked.shape {
+        sum = sum.saturating_add(shape_number(feature, distance));
+    }
+    sum
 }
 
-// Some numbers of the feature together, one of each part of it that is asked for when it is drawn.
-fn read(feature: &Feature, has_names: bool, has_shape: bool) -> u64 {
-    let mut sum = u64::from(feature.bbox().west);
-    if has_names {
-        sum = sum.saturating_add(name_len(feature.attrs()));
-    }
-    if has_shape {
-        sum = sum.saturating_add(first_place(feature.geometry()));
+// The numbers of features that lie so far away. None of them waits for another one, so many are on their way at once.
+fn read(features: &[&SharedFeature], asked: Asked, distance: Distance) -> u64 {
+    let mut sum = 0u64;
+    for shared in features {
+        sum = sum.saturating_add(number(shared.feature(), asked, distance));
     }
     sum
 }
@@ -69,8 +110,9 @@ pub(crate) fn from_the_first(painted: usize) -> Ahead {
 
 impl Ahead {
     /// Before the k-th feature is drawn, it is read, and so many others with it: one after another they would wait for
-    /// memory, since what is painted between them takes their place in the nearest caches. That they are read must be of
-    /// some use, or it would be left out: more than a number counts is more than memory holds.
+    /// memory, since what is painted between them takes their place in the nearest caches. What lies in all of them is read
+    /// first, then what they lead to. That they are read must be of some use, or it would be left out: more than a number
+    /// counts is more than memory holds.
     pub(crate) fn read(
         &mut self,
         scaled: &ScaledStyle<'_>,
@@ -81,15 +123,18 @@ impl Ahead {
         if k < self.next {
             return Ok(());
         }
-        let has_names = scaled.has_filter();
-        let has_shapes = painted.saturating_sub(self.painted) >= self.read / SOME;
+        let asked = Asked {
+            attrs: scaled.has_filter(),
+            shape: painted.saturating_sub(self.painted) >= self.read / SOME,
+        };
         self.painted = painted;
-        self.next = features.len().min(k.saturating_add(TOGETHER));
-        self.read = self.next.saturating_sub(k);
-        let mut sum = 0u64;
-        for n in k..self.next {
-            sum = sum.saturating_add(read(features[n].feature(), has_names, has_shapes));
-        }
+        let rest = &features[k.min(features.len())..];
+        let together = &rest[..rest.len().min(TOGETHER)];
+        self.next = k.saturating_add(together.len());
+        self.read = together.len();
+        let sum = read(together, asked, Distance::Itself)
+            .saturating_add(read(together, asked, Distance::Lists))
+            .saturating_add(read(together, asked, Distance::Ends));
         if sum == u64::MAX {
             return Err(NoMemory);
         }
