@@ -12,6 +12,7 @@ the machine is (patience.py). The status is 1 where something came that is not a
 in time, and where something could not be tried.
 """
 
+import contextlib
 import os
 import resource
 import shutil
@@ -33,6 +34,7 @@ BEGUN = 0.01  # seconds after which a drawing has begun; one of large tiles has 
 NARROW = 40 << 20  # bytes of addresses: less than the stacks of MANY workers
 MANY = 16
 MOST = 3000  # metatiles of a saved text of more than 65,536 bytes
+BUSY = 3  # connections on which something always comes: one that is read sooner than it is filled is not busy for a moment
 CONNECTIONS = 66000
 PATIENCE = 26  # seconds from its begin, more than the actors of a run wait for one that has no thread
 SAVED = "tiles/farm.saved"
@@ -300,20 +302,23 @@ def run_over_loopback(farm):
 
 
 def run_beside_a_busy_one(farm):
-    """A connection on which something always comes, and beside it two that ask once: one that was there before."""
-    ignored = wanted.message(0, 0, 0, 0) * 1024
+    """Connections on which something always comes, and beside them two that ask once: one that was there before."""
+    ignored = memoryview(wanted.message(0, 0, 0, 0) * 1024)
     is_over = threading.Event()
 
     def never_stops(made):
+        rest = ignored
         while not is_over.is_set():
             try:
-                made.send(ignored)
+                rest = rest[made.send(rest) :] or ignored
             except socket.timeout:
                 pass
 
-    with connected(farm.renderd) as before, connected(farm.renderd) as busy:
-        sender = threading.Thread(target=never_stops, args=(busy,))
-        sender.start()
+    with contextlib.ExitStack() as made:
+        before, *busy = [made.enter_context(connected(farm.renderd)) for _ in range(1 + BUSY)]
+        senders = [threading.Thread(target=never_stops, args=(each,)) for each in busy]
+        for sender in senders:
+            sender.start()
         try:
             time.sleep(BEGUN)
             asked, refused = wanted.message(wanted.RENDER, 0, 1, 0), wanted.message(wanted.NOT_DONE, 0, 1, 0)
@@ -322,7 +327,8 @@ def run_beside_a_busy_one(farm):
             told("another, of one that came later", farm.renderd, asked, refused)
         finally:
             is_over.set()
-            sender.join()
+            for sender in senders:
+                sender.join()
     told("stop", farm.control, b"stop\n", b"stopping\n")
     same("the end", farm.ended(), (0, wanted.tally(2, 0, 0, 0), ""))
 
