@@ -2,6 +2,7 @@
 use crate::drawings::data;
 use data_versions::{LayerView, SharedFeature, Snapshot, apply};
 use geo_json::read_update;
+use geo_model::Bounds;
 use noted_puts::Letters;
 use std::alloc::Global;
 
@@ -104,7 +105,13 @@ fn stand_in_order(layer: &LayerView<'_>, count: u32, gone: u32) -> bool {
 
 // The id of the one feature that is near, in the column x.
 fn only_id(layer: &LayerView<'_>, x: u32) -> Option<u64> {
-    let mut walk = layer.near(x, 0, x, 9);
+    let column = Bounds {
+        west: x,
+        north: 0,
+        east: x,
+        south: 9,
+    };
+    let mut walk = layer.near(column, None);
     let first = id_of(walk.next());
     let second = id_of(walk.next());
     if second.is_some() { None } else { first }

@@ -1,9 +1,8 @@
 -- Where the first one that passes stands in a list that is cut into parts.
-use Rattle.std.proofs.Common.{◌≡◌, ℕ, suc, ◌+◌, List, [], ◌∷◌, ◌++◌, length, drop, get_or, add-one, refl, sym, ap, ◌∙◌, arith}
+use Rattle.std.proofs.Common.{◌≡◌, ℕ, suc, ◌+◌, List, [], ◌∷◌, ◌++◌, length, refl, sym, ap, ◌∙◌, arith}
 use Rattle.std.specs.Prelude.{Bool, true, false, not, cond, filter, nat_eq, nat_lt, position, Option, Some, None, option_map}
 use Rattle.std.specs.List.{AllByRecursion, position_or_len}
 use Rattle.std.proofs.lemmas.Bool.Decides.{nat_tests}
-use Rattle.std.proofs.lemmas.List.Elements.{filter-append}
 use Rattle.plain_shapes.specs.Features.{Feature}
 use Rattle.plain_shapes.specs.Data.{ids_of}
 use Rattle.data_versions.specs.Near.{place_of}
@@ -60,47 +59,6 @@ none_passes p (x ∷ xs) each = position-cons p x xs ∙ rw (each.0, none_passes
 pub none_kept : {X : Type 0} (p : X → Bool) (xs : List X) → AllByRecursion (λ x. p x ≡ false) xs → filter p xs ≡ []
 none_kept p [] each = refl
 none_kept p (x ∷ xs) each = rw (each.0, none_kept p xs each.1) refl
-
-nothing_at : {X : Type 0} (p : X → Bool) (b : Bool) (x : X) (xs : List X) (o : Option ℕ) → p x ≡ b → position p xs ≡ o
-    → cond b (Some 0) (option_map (λ k. k + 1) o) ≡ None → (position p xs ≡ None → filter p xs ≡ []) → filter p (x ∷ xs) ≡ []
-nothing_at p true x xs o here rest found later = cc
-nothing_at p false x xs (Some j) here rest found later = cc
-nothing_at p false x xs None here rest found later = rw here (later rest)
-
--- where no place is found, none is kept
-pub none_at : {X : Type 0} (p : X → Bool) (xs : List X) → position p xs ≡ None → filter p xs ≡ []
-none_at p [] found = refl
-none_at p (x ∷ xs) found = nothing_at p (p x) x xs (position p xs) refl refl (sym (position-cons p x xs) ∙ found) (none_at p xs)
-
-kept_at : {X : Type 0} (p : X → Bool) (b : Bool) (x : X) (xs : List X) (o : Option ℕ) (k : ℕ) (d : X) → p x ≡ b → position p xs ≡ o
-    → cond b (Some 0) (option_map (λ n. n + 1) o) ≡ Some k → ((j : ℕ) → position p xs ≡ Some j → filter p xs ≡ get_or xs j d ∷ filter p (drop (j + 1) xs))
-    → filter p (x ∷ xs) ≡ get_or (x ∷ xs) k d ∷ filter p (drop (k + 1) (x ∷ xs))
-kept_at p true x xs o k d here rest found later = let first : k ≡ 0 = cc in rw (here, first) refl
-kept_at p false x xs None k d here rest found later = cc
-kept_at p false x xs (Some j) k d here rest found later =
-    let next : k ≡ suc j = omega (arith, same (j + 1) k found) in
-    rw (here, next, add-one (suc j)) (rw (add-one j) at (later j rest))
-  where
-    same : (a b : ℕ) → Some a ≡ Some b → a ≡ b
-    same a b h = cc
-
--- the first one that passes is kept, and those of the rest
-pub first_kept : {X : Type 0} (p : X → Bool) (xs : List X) (k : ℕ) (d : X) → position p xs ≡ Some k → filter p xs ≡ get_or xs k d ∷ filter p (drop (k + 1) xs)
-first_kept p [] k d found = cc
-first_kept p (x ∷ xs) k d found = kept_at p (p x) x xs (position p xs) k d refl refl (sym (position-cons p x xs) ∙ found) (λ j at. first_kept p xs j d at)
-
--- ---- a walk, which is in a part of the list
-
--- the walk finds one in its part
-pub walk_finds : {X : Type 0} (p : X → Bool) (here later : List X) (k : ℕ) (d : X) → position p here ≡ Some k
-    → filter p (here ++ later) ≡ get_or here k d ∷ filter p (drop (k + 1) here ++ later)
-walk_finds p here later k d found =
-    filter-append p here later ∙ ap (λ xs. xs ++ filter p later) (first_kept p here k d found)
-    ∙ ap (λ xs. get_or here k d ∷ xs) (sym (filter-append p (drop (k + 1) here) later))
-
--- the walk ends, where no part is left
-pub walk_ends : {X : Type 0} (p : X → Bool) (here : List X) → position p here ≡ None → filter p (here ++ []) ≡ []
-walk_ends p here none = filter-append p here [] ∙ ap (λ xs. xs ++ []) (none_at p here none)
 
 -- ---- the place of an id
 

@@ -1,4 +1,4 @@
-pub mod Bits
+pub mod Grids
 pub mod Changes
 pub mod Finds
 pub mod Ids
@@ -8,3 +8,4 @@ pub mod Named
 pub mod Old
 pub mod Overlaid
 pub mod Standing
+pub mod Walks

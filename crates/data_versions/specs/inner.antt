@@ -1,8 +1,9 @@
 pub mod Building
-pub mod Cells
 pub mod Edits
 pub mod Extents
+pub mod Grids
 pub mod Ids
 pub mod Parts
 pub mod Questions
+pub mod Sieves
 pub mod Slots

@@ -5,9 +5,11 @@ ghost use Rattle.plain_shapes.specs.Features.{Feature};
 ghost use Rattle.data_versions.specs.inner.Ids.{numbered};
 ghost use Rattle.data_versions.specs.inner.Parts.{IsPart};
 ghost use Rattle.data_versions.specs.inner.Questions.{answers};
+ghost use Rattle.data_versions.specs.inner.Sieves.{Sifts};
 
 use crate::question::Question;
 use crate::shared::SharedFeature;
+use crate::sieve::Sifted;
 use farm_base::NoMemory;
 
 /// Features in order, which are shared; what most searches need to know of them stands in line.
@@ -30,10 +32,11 @@ pub(crate) trait Block: Drop {
     fn get(&self, i: u32) -> Option<&SharedFeature>
         ensures { option_copied result ≡ slice_get (features self.now) i };
 
-    /// The place, from the place `from` on, before which no feature answers the question, and features that stand
-    /// side by side from there on.
-    fn part_from(&self, from: u32, question: Question) -> (u32, &[SharedFeature])
-        ensures { IsPart (answers question) from result.0 result.1.now (features self.now) };
+    /// The place, from the place `from` on, before which no feature answers the question, features that stand
+    /// side by side from there on, and which of them may be looked for.
+    fn part_from(&self, from: u32, question: Question) -> (u32, &[SharedFeature], Sifted)
+        ensures part { IsPart (answers question) from result.0 result.1.now (features self.now) }
+        ensures sifted { Sifts question result.2 result.1.now };
 
     /// Adds the ids, each with its place.
     fn number(&self, pairs: &mut Vec<(u64, u32)>) -> Result<(), NoMemory>

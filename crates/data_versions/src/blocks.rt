@@ -5,10 +5,12 @@ ghost use Rattle.std.specs.Option.{option_copied};
 ghost use Rattle.data_versions.specs.inner.Ids.{numbered};
 ghost use Rattle.data_versions.specs.inner.Parts.{IsLaid, IsPart, next_answer};
 ghost use Rattle.data_versions.specs.inner.Questions.{answers};
+ghost use Rattle.data_versions.specs.inner.Sieves.{Sifts};
 
 use crate::block::Block;
 use crate::question::{Question, first_answer};
 use crate::shared::SharedFeature;
+use crate::sieve::{ALL_SIFTED, Sifted};
 use farm_base::NoMemory;
 use std::alloc::Global;
 use std::marker::Model;
@@ -109,24 +111,25 @@ impl<B: Block> Blocks<B> {
         self.list[at].get(i - self.starts[at])
     }
 
-    /// The place, from the place `from` on, before which no feature answers the question, and features that stand
-    /// side by side from there on.
-    pub(crate) fn part_from(&self, from: u32, question: Question) -> (u32, &[SharedFeature])
-        ensures { IsPart (answers question) from result.0 result.1.now self.now }
+    /// The place, from the place `from` on, before which no feature answers the question, features that stand
+    /// side by side from there on, and which of them may be looked for.
+    pub(crate) fn part_from(&self, from: u32, question: Question) -> (u32, &[SharedFeature], Sifted)
+        ensures part { IsPart (answers question) from result.0 result.1.now self.now }
+        ensures sifted { Sifts question result.2 result.1.now }
     {
         let count = self.len();
         if from >= count {
-            return (from, &[]);
+            return (from, &[], ALL_SIFTED);
         }
         for at in last_start(self.starts.as_slice(), from)..self.list.len() {
             let block = &self.list[at];
             if block.may_answer(question) {
                 let start = self.starts[at];
-                let (place, part) = block.part_from(from.saturating_sub(start), question);
-                return (start + place, part);
+                let (place, part, sifted) = block.part_from(from.saturating_sub(start), question);
+                return (start + place, part, sifted);
             }
         }
-        (count, &[])
+        (count, &[], ALL_SIFTED)
     }
 
     /// The place of the first feature from the place `from` on that answers the question.
@@ -135,7 +138,7 @@ impl<B: Block> Blocks<B> {
     {
         let count = self.len();
         while from < count {
-            let (place, part) = self.part_from(from, question);
+            let (place, part, _) = self.part_from(from, question);
             if let Some(steps) = first_answer(part, question) {
                 return Some(place + steps as u32);
             }

@@ -3,15 +3,16 @@ ghost use Rattle.std.specs.Prelude.{◌≡◌, ◌∷◌, ◌++◌, [], IfOk, On
 ghost use Rattle.data_versions.specs.inner.Building.{built};
 ghost use Rattle.data_versions.specs.inner.Parts.{laid};
 
-use crate::chunk::{Chunk, MOST_TOGETHER};
+use crate::chunk::Chunk;
 use crate::segment::Segment;
 use crate::shared::SharedFeature;
+use crate::sieve::MOST_TOGETHER;
 use farm_base::NoMemory;
 use std::alloc::Global;
 use std::mem;
 
-/// A segment that has so many chunks is full. An update that changes one of its features copies the boxes and the
-/// cells of them all, and each update counts all segments.
+/// A segment that has so many chunks is full. An update that changes one of its features copies the sieves of
+/// them all, and each update counts all segments.
 const FULL_SEGMENT: usize = 32;
 
 /// The segments so far, the chunks that are to become the next one, and the features that are to become the next

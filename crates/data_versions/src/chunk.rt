@@ -1,48 +1,41 @@
 //! A chunk of a layer: features that snapshots share.
 ghost use Rattle.std.specs.Prelude.{◌≡◌, ◌≤◌, true, false, length, All, IfOk};
 ghost use Rattle.plain_shapes.specs.Features.{Feature};
-ghost use Rattle.data_versions.specs.inner.Cells.{IsWide, IsMarked};
 ghost use Rattle.data_versions.specs.inner.Extents.{IsIn};
+ghost use Rattle.data_versions.specs.inner.Sieves.{Sifts};
 
 use crate::block::Block;
-use crate::cells::{CELL_ROWS, Grid, add_block, has_one};
 use crate::extent::{Extent, NO_EXTENT};
 use crate::question::Question;
 use crate::shared::SharedFeature;
+use crate::sieve::{ALL_SIFTED, MOST_TOGETHER, Sieve, Sifted};
 use farm_base::NoMemory;
-use geo_model::Bounds;
 use std::alloc::Global;
 use std::marker::Model;
 use std::sync::Arc;
 
-/// The most features of a chunk. An update that changes one of them makes a new list of them all, and counts all
-/// chunks of their segment.
-pub(crate) const MOST_TOGETHER: usize = 64;
-
-/// A share of some features, their extent, and those of its 64 by 64 cells that they meet: 8 bytes a feature, by
-/// which a chunk of features that lie far apart is passed over too. They stand beside those of the next chunk, so
-/// that a walk follows the share only where a cell is met. Contracts see it as the list of its features.
+/// A share of at most 64 features, their extent, and what a search asks of each: these stand beside those of the next
+/// chunk, so that a walk follows the share only where a feature may be wanted. An update that changes one of the features
+/// makes a new list of them all, and counts all chunks of their segment. Contracts see it as the list of its features.
 #[derive(Drop)]
 pub(crate) struct Chunk {
     extent: Extent,
-    grid: Grid,
-    cells: [u64; CELL_ROWS],
+    sieve: Sieve,
     features: Arc<Vec<SharedFeature>>,
 }
 
 impl Model for Chunk {
-    ghost use Rattle.std.specs.Prelude.{◌≡◌, ◌≤◌, List, All, length};
+    ghost use Rattle.std.specs.Prelude.{List, All};
     ghost use Rattle.plain_shapes.specs.Features.{Feature};
-    ghost use Rattle.data_versions.specs.inner.Cells.{IsPlaced};
     ghost use Rattle.data_versions.specs.inner.Extents.{IsIn};
+    ghost use Rattle.data_versions.specs.inner.Sieves.{IsSieve};
 
     ghost Value = { List Feature };
 
     ghost view = { λ c. c.features.value.items };
 
-    ghost invariant = { λ c. (length c.features.value.items ≤ 64)
-        × All (IsIn c.extent) c.features.value.items × (c.grid ≡ c.extent.bounds)
-        × IsPlaced c.grid c.cells c.features.value.items };
+    ghost invariant = { λ c. All (IsIn c.extent) c.features.value.items
+        × IsSieve c.sieve c.features.value.items };
 }
 
 fn extent_over(features: &[SharedFeature]) -> Extent
@@ -60,21 +53,14 @@ fn extent_over(features: &[SharedFeature]) -> Extent
     extent
 }
 
-fn cells_under(grid: &Grid, features: &[SharedFeature]) -> [u64; CELL_ROWS]
-    ensures rows { length result ≡ 64 }
-    ensures marked { All (IsMarked grid.now result) features.now }
+// All of the features may be looked for.
+fn all_sifted(features: &[SharedFeature], question: Question) -> Sifted
+    requires { length features.now ≤ 64 }
+    ensures { Sifts question result features.now }
 {
-    let mut cells = [0u64; CELL_ROWS];
-    for feature in features {
-        add_block(&mut cells, grid.cells_met(feature.bbox()));
-    }
-    cells
-}
-
-fn is_wide(around: Bounds) -> bool
-    ensures { result ≡ true → IsWide around }
-{
-    around.west <= around.east && around.north <= around.south
+    let _ = features;
+    let _ = question;
+    ALL_SIFTED
 }
 
 impl Chunk {
@@ -86,12 +72,10 @@ impl Chunk {
             return Err(NoMemory);
         }
         let extent = extent_over(features.as_slice());
-        let grid = Grid::of(extent.bounds);
-        let cells = cells_under(&grid, features.as_slice());
+        let sieve = Sieve::of(extent.bounds, features.as_slice());
         Ok(Chunk {
             extent,
-            grid,
-            cells,
+            sieve,
             features: Arc::new(alloc, features)?,
         })
     }
@@ -102,8 +86,7 @@ impl Chunk {
     {
         Ok(Chunk {
             extent: self.extent,
-            grid: self.grid.again(),
-            cells: self.cells,
+            sieve: self.sieve.again(),
             features: Arc::try_clone(&self.features)?,
         })
     }
@@ -122,6 +105,16 @@ impl Chunk {
     {
         self.features.as_slice()
     }
+
+    // Which of the features may be looked for.
+    fn sifted(&self, question: Question) -> Sifted
+        ensures { Sifts question result self.now }
+    {
+        match question {
+            Question::IsNear(wanted) => self.sieve.sift(wanted),
+            Question::HasId(_) => ALL_SIFTED,
+        }
+    }
 }
 
 impl Block for Chunk {
@@ -135,26 +128,26 @@ impl Block for Chunk {
         if !self.extent.may_answer(question) {
             return false;
         }
-        let Question::IsNear(around) = question else {
-            return true;
-        };
-        if !is_wide(around) {
-            return true;
+        match question {
+            Question::IsNear(wanted) => self.sieve.may_meet(wanted.around),
+            Question::HasId(_) => true,
         }
-        has_one(&self.cells, self.grid.cells_met(around))
     }
 
     fn get(&self, i: u32) -> Option<&SharedFeature> {
         self.features.get(i as usize)
     }
 
-    fn part_from(&self, from: u32, question: Question) -> (u32, &[SharedFeature]) {
-        let _ = question;
+    fn part_from(&self, from: u32, question: Question) -> (u32, &[SharedFeature], Sifted) {
         let features = self.features();
-        if from as usize >= features.len() {
-            return (from, &[]);
+        if from == 0 {
+            return (from, features, self.sifted(question));
         }
-        (from, &features[from as usize..])
+        if from as usize >= features.len() {
+            return (from, &[], ALL_SIFTED);
+        }
+        let rest = &features[from as usize..];
+        (from, rest, all_sifted(rest, question))
     }
 
     fn number(&self, pairs: &mut Vec<(u64, u32)>) -> Result<(), NoMemory> {

@@ -54,7 +54,7 @@ impl Extent {
     {
         match question {
             Question::HasId(id) => self.least <= id && id <= self.greatest,
-            Question::IsNear(around) => self.bounds.meets(&around),
+            Question::IsNear(wanted) => self.bounds.meets(&wanted.around),
         }
     }
 }

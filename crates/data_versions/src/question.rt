@@ -5,11 +5,18 @@ ghost use Rattle.data_versions.specs.inner.Questions.{answers};
 use crate::shared::SharedFeature;
 use geo_model::Bounds;
 
-/// What a feature is looked for by: its id, or a rectangle that its box meets.
+/// A rectangle, and marks of attributes of which a feature that is near it is to have one, if some are asked for.
+#[derive(Clone, Copy)]
+pub(crate) struct Wanted {
+    pub around: Bounds,
+    pub asked: Option<u64>,
+}
+
+/// What a feature is looked for by: its id, or a rectangle that its box meets. What has none of the marks may be left out.
 #[derive(Clone, Copy)]
 pub(crate) enum Question {
     HasId(u64),
-    IsNear(Bounds),
+    IsNear(Wanted),
 }
 
 fn answers(feature: &SharedFeature, question: Question) -> bool
@@ -17,7 +24,7 @@ fn answers(feature: &SharedFeature, question: Question) -> bool
 {
     match question {
         Question::HasId(id) => feature.id() == id,
-        Question::IsNear(around) => feature.bbox().meets(&around),
+        Question::IsNear(wanted) => feature.bbox().meets(&wanted.around),
     }
 }
 

@@ -9,6 +9,7 @@ use crate::chunk::Chunk;
 use crate::extent::{Extent, NO_EXTENT};
 use crate::question::Question;
 use crate::shared::SharedFeature;
+use crate::sieve::Sifted;
 use farm_base::NoMemory;
 use std::alloc::Global;
 use std::marker::Model;
@@ -98,7 +99,7 @@ impl Block for Segment {
         self.chunks.get(i)
     }
 
-    fn part_from(&self, from: u32, question: Question) -> (u32, &[SharedFeature]) {
+    fn part_from(&self, from: u32, question: Question) -> (u32, &[SharedFeature], Sifted) {
         self.chunks.part_from(from, question)
     }
 

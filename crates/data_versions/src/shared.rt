@@ -1,7 +1,7 @@
 //! A feature that snapshots share, with what is read of many features at once beside it.
 ghost use Rattle.std.specs.Prelude.{◌≡◌, false, IfOk};
-ghost use Rattle.attribute_marks.specs.Marks.{Lacks};
-ghost use Rattle.data_versions.specs.inner.Cells.{IsWide, box_of};
+ghost use Rattle.attribute_marks.specs.Marks.{HasMarks, Lacks};
+ghost use Rattle.data_versions.specs.Near.{box_of};
 
 use attribute_marks::{marks_of, shares};
 use farm_base::NoMemory;
@@ -10,7 +10,7 @@ use std::alloc::Global;
 use std::marker::Model;
 use std::sync::Arc;
 
-/// A share of a feature, and the feature's id, its box, which holds a point, and marks of its attributes, so that a search
+/// A share of a feature, and the feature's id, its box, and marks of its attributes, so that a search
 /// by them does not read the feature itself. Contracts see it as the feature.
 #[derive(Drop)]
 pub struct SharedFeature {
@@ -24,23 +24,14 @@ impl Model for SharedFeature {
     ghost use Rattle.std.specs.Prelude.{◌≡◌};
     ghost use Rattle.plain_shapes.specs.Features.{Feature};
     ghost use Rattle.attribute_marks.specs.Marks.{HasMarks};
-    ghost use Rattle.data_versions.specs.inner.Cells.{IsWide, box_of};
+    ghost use Rattle.data_versions.specs.Near.{box_of};
 
     ghost Value = { Feature };
 
     ghost view = { λ s. s.feature.value };
 
     ghost invariant = { λ s. (s.id ≡ s.feature.value.id) × (s.bounds ≡ box_of s.feature.value)
-        × IsWide s.bounds × HasMarks s.marks s.feature.value.attrs };
-}
-
-fn wide_box(feature: &Feature) -> Bounds
-    ensures value { result ≡ box_of feature.now }
-    ensures wide { IsWide result }
-{
-    // Read for what `geometry` ensures: the shape has a point.
-    let _geometry = feature.geometry();
-    feature.bbox()
+        × HasMarks s.marks s.feature.value.attrs };
 }
 
 impl SharedFeature {
@@ -50,7 +41,7 @@ impl SharedFeature {
     {
         Ok(SharedFeature {
             id: feature.id(),
-            bounds: wide_box(&feature),
+            bounds: feature.bbox(),
             marks: marks_of(feature.attrs()),
             feature: Arc::new(alloc, feature)?,
         })
@@ -82,6 +73,13 @@ impl SharedFeature {
         shares(self.marks, asked)
     }
 
+    /// The marks of its attributes.
+    pub(crate) fn marks(&self) -> u64
+        ensures { HasMarks result self.now.attrs }
+    {
+        self.marks
+    }
+
     /// The feature's id.
     pub(crate) fn id(&self) -> u64
         ensures { result ≡ self.now.id }
@@ -91,8 +89,7 @@ impl SharedFeature {
 
     /// The feature's box.
     pub fn bbox(&self) -> Bounds
-        ensures value { result ≡ box_of self.now }
-        ensures wide { IsWide result }
+        ensures { result ≡ box_of self.now }
     {
         self.bounds
     }

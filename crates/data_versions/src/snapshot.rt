@@ -12,7 +12,7 @@ use crate::builder::Builder;
 use crate::chunked::ChunkedLayer;
 use crate::dataset::{Dataset, Layer};
 use crate::finder::LayerFinder;
-use crate::question::Question;
+use crate::question::{Question, Wanted};
 use crate::segment::Segment;
 use crate::shared::SharedFeature;
 use crate::walk::NearFeatures;
@@ -182,25 +182,20 @@ impl<'a> LayerView<'a> {
             east,
             south,
         };
-        self.layer.segments().find(from, Question::IsNear(around))
+        let wanted = Wanted {
+            around,
+            asked: None,
+        };
+        self.layer.segments().find(from, Question::IsNear(wanted))
     }
 
-    /// A walk over the features whose bounding box, borders included, has a point in common with the
-    /// rectangle, borders included, in order. The caller sees to it that the rectangle's west is not past its
-    /// east, nor its north past its south.
-    pub fn near(&self, west: u32, north: u32, east: u32, south: u32) -> NearFeatures<'a>
-        requires across { west ≤ east }
-        requires down { north ≤ south }
-        ensures { result ≡ all_near self.now
-            (record { west = west; north = north; east = east; south = south }) }
+    /// A walk over the features whose bounding box, borders included, has a point in common with the rectangle, borders
+    /// included, in order. Where marks of attributes are asked for (`attribute_marks`), features of which no attribute has
+    /// one of them may be left out.
+    pub fn near(&self, around: Bounds, asked: Option<u64>) -> NearFeatures<'a>
+        ensures { result ≡ record { asked = asked; left = all_near self.now around } }
     {
-        let around = Bounds {
-            west,
-            north,
-            east,
-            south,
-        };
         let layer = self.layer;
-        NearFeatures::of(layer.segments(), around)
+        NearFeatures::of(layer.segments(), Wanted { around, asked })
     }
 }

@@ -5,6 +5,7 @@ pub mod Covering
 pub mod GridRuns
 pub mod Joining
 pub mod Keeping
+pub mod Leaving
 pub mod Metas
 pub mod Painted
 pub mod Passing

@@ -20,7 +20,7 @@ use Rattle.plain_drawing.specs.declared.style.Symbolizer.TheVariants as paint
 use Rattle.plain_drawing.specs.Drawing.{covers, feature}
 use Rattle.plain_drawing.specs.inner.Pictures.{with_symbolizer, with_item}
 use Rattle.geo_model.specs.Shapes.{parts_of}
-use Rattle.data_versions.specs.inner.Cells.{box_of}
+use Rattle.data_versions.specs.Near.{box_of}
 use Rattle.drawing_reach.proofs.Boxes.{box_holds}
 use Rattle.drawing_reach.proofs.Unreached.{Misses, all_centres, missed, filtered, taken_all, choose}
 use Rattle.tile_render.specs.inner.Chosen.{Scaled, takes, only_fills, RuleAsks, PassesOver, LeavesAll}

@@ -1,10 +1,10 @@
 //! The features of data that are near a rectangle, found once for all that is drawn of them.
-ghost use Rattle.std.specs.Prelude.{◌≡◌, ◌≤◌, true, IfOk, IfSome, map, find};
+ghost use Rattle.std.specs.Prelude.{◌≡◌, true, ◌&&◌, IfOk, IfSome, map, find};
 ghost use Rattle.std.specs.Option.{option_copied};
 ghost use Rattle.std.specs.Str.{bytes_eq};
 ghost use Rattle.plain_drawing.specs.Drawing.{features_of};
 ghost use Rattle.data_versions.specs.Near.{all_near};
-ghost use Rattle.tile_render.specs.inner.Nearby.{IsSource};
+ghost use Rattle.tile_render.specs.inner.Nearby.{IsSource, DrawAlike, serves};
 
 use crate::items::Source;
 use data_versions::{NearFeatures, SharedFeature, Snapshot};
@@ -16,10 +16,12 @@ use std::marker::Model;
 /// The most features that are kept of all layers of data. More take far longer to draw than to be found anew.
 const MOST_KEPT: usize = 131_072;
 
-/// The name of a layer of data, and its features that are near a rectangle, unless they are too many.
+/// The name of a layer of data, and its features that are near a rectangle, unless they are too many. Where marks are asked
+/// for, features that have none of them may be left out.
 #[derive(Drop)]
 pub(crate) struct NearLayer<'a> {
     name: &'a str,
+    asked: Option<u64>,
     pub features: Vec<&'a SharedFeature>,
     pub has_all: bool,
 }
@@ -35,15 +37,14 @@ pub(crate) struct NearData<'a> {
 }
 
 impl<'a> Model for NearData<'a> {
-    ghost use Rattle.std.specs.Prelude.{◌≤◌, All};
+    ghost use Rattle.std.specs.Prelude.{All};
     ghost use Rattle.tile_render.specs.inner.Nearby.{Nearby, IsKept};
 
     ghost Value = { Nearby };
 
     ghost view = { λ n. record { layers = n.snapshot.now; around = n.around } };
 
-    ghost invariant = { λ n. All (IsKept n.snapshot.now n.around) n.kept.items
-        × (n.around.west ≤ n.around.east) × (n.around.north ≤ n.around.south) };
+    ghost invariant = { λ n. All (IsKept n.snapshot.now n.around) n.kept.items };
 }
 
 fn listed<'a>(
@@ -51,8 +52,8 @@ fn listed<'a>(
     mut walk: NearFeatures<'a>,
     most: usize,
 ) -> Result<Option<Vec<&'a SharedFeature>>, NoMemory>
-    ensures { IfOk result
-        (λ found. IfSome found (λ features. map (λ f. f.now) features.items ≡ walk.entry)) }
+    ensures { IfOk result (λ found. IfSome found
+        (λ features. DrawAlike walk.entry.asked (map (λ f. f.now) features.items) walk.entry.left)) }
 {
     let mut features = Vec::new(alloc);
     while let Some(feature) = walk.next() {
@@ -69,44 +70,64 @@ fn near_layer<'a>(
     alloc: Global,
     source: &Source<'a>,
     around: Bounds,
+    asked: Option<u64>,
     most: usize,
 ) -> Result<NearLayer<'a>, NoMemory>
-    requires across { around.west ≤ around.east }
-    requires down { around.north ≤ around.south }
     ensures name { IfOk result (λ k. k.name.now ≡ source.now.name.now) }
     ensures near { IfOk result (λ k. k.has_all ≡ true
-        → map (λ f. f.now) k.features.items ≡ all_near source.now.features around) }
+        → DrawAlike k.asked (map (λ f. f.now) k.features.items)
+        (all_near source.now.features around)) }
 {
     let name = source.name;
-    let walk = source
-        .features
-        .near(around.west, around.north, around.east, around.south);
+    let walk = source.features.near(around, asked);
     match listed(alloc, walk, most)? {
         Some(features) => Ok(NearLayer {
             name,
+            asked,
             features,
             has_all: true,
         }),
         None => Ok(NearLayer {
             name,
+            asked,
             features: Vec::new(alloc),
             has_all: false,
         }),
     }
 }
 
-// What is kept of the layer of this name.
-fn find_layer<'b, 'a>(kept: &'b [NearLayer<'a>], name: &str) -> Option<&'b NearLayer<'a>>
-    ensures { option_copied result ≡ find (λ k. bytes_eq k.name.now name.now) kept.now }
+// Whether what is kept for some marks serves who asks for others: whether each of these is one of those. Where none are
+// asked for, all features are.
+fn serves(kept: Option<u64>, asked: Option<u64>) -> bool
+    ensures { result ≡ serves kept asked }
 {
-    kept.iter().find(|layer| layer.name == name)
+    match (kept, asked) {
+        (None, _) => true,
+        (Some(_), None) => false,
+        (Some(kept), Some(asked)) => asked | kept == kept,
+    }
+}
+
+// What is kept of the layer of this name, if it serves who asks for the marks.
+fn find_layer<'b, 'a>(
+    kept: &'b [NearLayer<'a>],
+    name: &str,
+    asked: Option<u64>,
+) -> Option<&'b NearLayer<'a>>
+    ensures { option_copied result
+        ≡ find (λ k. bytes_eq k.name.now name.now && serves k.asked asked) kept.now }
+{
+    kept.iter()
+        .find(|layer| layer.name == name && serves(layer.asked, asked))
+}
+
+fn has_layer(kept: &[NearLayer<'_>], name: &str) -> bool {
+    kept.iter().any(|layer| layer.name == name)
 }
 
 impl<'a> NearData<'a> {
     /// The data, of which nothing is kept yet.
     pub(crate) fn of(alloc: Global, snapshot: &'a Snapshot, around: Bounds) -> NearData<'a>
-        requires across { around.west ≤ around.east }
-        requires down { around.north ≤ around.south }
         ensures { result ≡ record { layers = snapshot.entry.now; around = around } }
     {
         NearData {
@@ -124,26 +145,37 @@ impl<'a> NearData<'a> {
         self.snapshot
     }
 
-    /// Keeps the near features of the layer of data, where they are not too many, if it was not drawn before.
-    pub(crate) fn keep(&mut self, alloc: Global, source: &Source<'a>) -> Result<(), NoMemory>
+    /// Keeps the near features of the layer of data, where they are not too many, that may have one of the marks, unless
+    /// what is kept serves. A layer that is drawn anew for other marks is kept for all.
+    pub(crate) fn keep(
+        &mut self,
+        alloc: Global,
+        source: &Source<'a>,
+        asked: Option<u64>,
+    ) -> Result<(), NoMemory>
         requires { IsSource self.old.layers source.now }
         ensures { self.new ≡ self.old }
     {
-        if find_layer(self.kept.as_slice(), source.name).is_some() {
+        if find_layer(self.kept.as_slice(), source.name, asked).is_some() {
             return Ok(());
         }
-        let layer = near_layer(alloc, source, self.around, self.room)?;
+        let asked = if has_layer(self.kept.as_slice(), source.name) {
+            None
+        } else {
+            asked
+        };
+        let layer = near_layer(alloc, source, self.around, asked, self.room)?;
         self.room = self.room.saturating_sub(layer.features.len());
         self.kept.push(layer)?;
         Ok(())
     }
 
-    /// What is kept of the layer of this name, if it was drawn before.
-    pub(crate) fn kept(&self, name: &str) -> Option<&NearLayer<'a>>
+    /// What is kept of the layer of this name for who asks for the marks.
+    pub(crate) fn kept(&self, name: &str, asked: Option<u64>) -> Option<&NearLayer<'a>>
         ensures { IfSome result (λ k. k.now.has_all ≡ true
-            → map (λ f. f.now) k.now.features.items
-            ≡ all_near (features_of self.now.layers name.now) self.now.around) }
+            → DrawAlike asked (map (λ f. f.now) k.now.features.items)
+            (all_near (features_of self.now.layers name.now) self.now.around)) }
     {
-        find_layer(self.kept.as_slice(), name)
+        find_layer(self.kept.as_slice(), name, asked)
     }
 }

@@ -66,8 +66,8 @@ pub(crate) fn region_near(w: Window, b: Bounds, across: u64, down: u64) -> Optio
     }
 }
 
-/// Whether a centre of the window may lie in the rectangle; of one that is as wide and as high as a pixel, that lies near the
-/// window, it is not asked.
+/// Whether a centre of the window may lie in the rectangle. One that is as wide and as high as a pixel has a centre of the
+/// grid, mostly one of the window: it is not looked for.
 pub(crate) fn may_have_centre(w: Window, b: Bounds) -> bool
     requires { IsWindow w }
     ensures { result ≡ false → HasNoCentre w b }

@@ -6,7 +6,7 @@ ghost use Rattle.plain_drawing.specs.Rules.{at_scale, drawing_rules};
 ghost use Rattle.plain_drawing.specs.Styles.{KeepsRanges};
 ghost use Rattle.plain_world.specs.World.{IsWindow};
 ghost use Rattle.plain_drawing.specs.Drawing.{feature};
-ghost use Rattle.tile_render.specs.inner.Chosen.{filters_at, only_fills, RuleAsks, LeavesAll};
+ghost use Rattle.tile_render.specs.inner.Chosen.{filters_at, only_fills, RuleAsks, PassesOver, LeavesAll};
 
 use crate::covers::is_fill;
 use crate::regions::may_have_centre;
@@ -167,6 +167,14 @@ impl<'a> ScaledStyle<'a> {
     {
         let filters = filters_of(alloc, self.rules.as_slice())?;
         FilterTable::of(alloc, filters.as_slice())
+    }
+
+    /// The marks of attributes of which an item has one where a rule draws it, if it is known that it has.
+    pub(crate) fn asked(&self) -> Option<u64>
+        ensures { IfSome result
+            (λ asked. PassesOver asked self.now.denominator self.now.style) }
+    {
+        self.asked
     }
 
     /// Whether it is known of some features that it does not draw them.

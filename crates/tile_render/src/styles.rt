@@ -154,7 +154,7 @@ fn draw_features<'a>(
     scaled.know();
     let mut table = scaled.filters(alloc)?;
     let near = around(canvas.window());
-    let mut walk = features.near(near.west, near.north, near.east, near.south);
+    let mut walk = features.near(near, scaled.asked());
     while let Some(feature) = walk.next() {
         draw_shared(alloc, scaled, &mut table, feature, canvas)?;
     }
@@ -162,7 +162,7 @@ fn draw_features<'a>(
 }
 
 // Those of the features of which it is not known that the style does not draw them in the window, in order.
-fn drawable<'a>(
+fn that_may_be_drawn<'a>(
     alloc: Global,
     scaled: &ScaledStyle<'_>,
     w: Window,
@@ -222,7 +222,7 @@ fn draw_listed<'a>(
     if !scaled.passes_over() {
         return draw_each(alloc, scaled, &mut table, features, canvas);
     }
-    let chosen = drawable(alloc, scaled, canvas.window(), features)?;
+    let chosen = that_may_be_drawn(alloc, scaled, canvas.window(), features)?;
     draw_each(alloc, scaled, &mut table, chosen.as_slice(), canvas)
 }
 
@@ -245,8 +245,9 @@ fn draw_source<'a>(
     scaled.know();
     // Read for what it says of the window: it is one.
     let _window = canvas.window();
-    nearby.keep(alloc, source)?;
-    match nearby.kept(source.name) {
+    let asked = scaled.asked();
+    nearby.keep(alloc, source, asked)?;
+    match nearby.kept(source.name, asked) {
         Some(layer) if layer.has_all => {
             draw_listed(alloc, scaled, layer.features.as_slice(), canvas)
         }

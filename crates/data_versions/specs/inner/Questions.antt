@@ -8,4 +8,4 @@ use Rattle.data_versions.specs.declared.question.Question.TheVariants.{HasId, Is
 -- the feature has the id, or is near the rectangle
 abbrev pub answers : Question → Feature → Bool
 answers (HasId id) = λ f. nat_eq f.id id
-answers (IsNear around) = is_near around
+answers (IsNear wanted) = is_near wanted.around

@@ -1,55 +1,53 @@
-use Rattle.std.proofs.Common.{◌≡◌, ◌+◌, ◌∷◌, [], ◌++◌, drop, ap, sym, ◌∙◌, arith}
-use Rattle.std.specs.Prelude.{filter}
-use Rattle.std.proofs.lemmas.List.{take_rest, drop_all}
-use Rattle.std.proofs.lemmas.List.Elements.{filter-append}
-use Rattle.data_versions.specs.Near.{is_near}
-use Rattle.data_versions.proofs.Finds.{walk_finds, none_at, walk_ends}
+use Rattle.std.proofs.Common.{◌+◌, ◌++◌, ℕ, length, drop, ap, ◌∙◌, arith}
+use Rattle.std.proofs.lemmas.List.{drop_all}
+use Rattle.data_versions.specs.Near.{is_near, all_near}
 use Rattle.data_versions.proofs.Laid.{part_kept}
+use Rattle.data_versions.proofs.Walks.{part_next, found_next, at_end}
 use Rattle.data_versions.proofs.walk.NearFeatures.next.Goals as goal
+
+pub overflow_add-self : goal.overflow_add-self
+overflow_add-self c = omega (arith, c.in-Some.ensures.place.1, c.loop-place.invariant.sifted.few)
+
+pub offset_bounds-here-place : goal.offset_bounds-here-place
+offset_bounds-here-place c = omega (arith, c.in-Some.ensures.place.1, c.loop-place.invariant.sifted.few)
+
+pub invariant_of-self : goal.invariant_of-self
+invariant_of-self c =
+    rw (c.loop-place.invariant.wanted, c.loop-place.invariant.segments) ((c.loop-place.invariant.within, c.loop-place.invariant.sifted))
 
 pub returns-in-Some : goal.returns-in-Some
 returns-in-Some c =
-    let around = c.loop-place.self-inside.around in
-    let rest = drop c.loop-place.from c.loop-place.self-inside.segments.now in
-    rw (take_rest c.loop-place.here.now (c.in-Some.place + 1))
-    (c.loop-place.invariant.left
-    ∙ walk_finds (is_near around) c.loop-place.here.now rest c.in-Some.place c.index-here-place.result (sym c.first_answer.ensures.place ∙ c.in-Some.is)
-    ∙ ap (λ f. f ∷ filter (is_near around) (drop (c.in-Some.place + 1) c.loop-place.here.now ++ rest)) (sym c.index-here-place.is))
+    let w = c.self.inside.wanted in
+    rw (c.loop-place.invariant.wanted, c.loop-place.invariant.segments)
+    (found_next w c.args.self.now c.loop-place.here.now (drop c.loop-place.from c.self.inside.segments.now) c.loop-place.at c.in-Some.place c.index-here-place.result
+    c.loop-place.invariant.asked c.loop-place.invariant.left c.in-Some.ensures.place.0 c.in-Some.ensures.place.1 c.index-here-place.is
+    (ap (is_near w.around) c.index-here-place.is ∙ c.in-Some.ensures.near c.index-here-place.result) c.in-Some.ensures.passed)
+
+pub invariant_of-self-then-from-count : goal.invariant_of-self-then-from-count
+invariant_of-self-then-from-count c =
+    rw (c.loop-place.invariant.wanted, c.loop-place.invariant.segments)
+    ((c.loop-place.invariant.within, record { few = omega arith; long = c.loop-place.invariant.sifted.long; each = λ k d small off. absurd (omega arith) }))
 
 pub returns-then-from-count : goal.returns-then-from-count
 returns-then-from-count c =
-    let around = c.loop-place.self-inside.around in
-    let all = c.loop-place.self-inside.segments.now in
-    let none : drop c.loop-place.from all ≡ [] = drop_all c.loop-place.from all (omega (arith, c.loop-place.invariant.count, c.if-from-count.true)) in (
-      c.loop-place.invariant.left ∙ ap (λ xs. filter (is_near around) (c.loop-place.here.now ++ xs)) none
-          ∙ walk_ends (is_near around) c.loop-place.here.now (sym c.first_answer.ensures.place ∙ c.in_default.is),
-      ap (filter (is_near around)) none,
-    )
+    let w = c.self.inside.wanted in
+    let rest = drop c.loop-place.from c.self.inside.segments.now in
+    rw (c.loop-place.invariant.wanted, c.loop-place.invariant.segments)
+    (at_end w c.args.self.now c.loop-place.here.now rest c.loop-place.at c.loop-place.invariant.asked c.loop-place.invariant.left c.in_default.ensures.passed
+    (drop_all c.loop-place.from c.self.inside.segments.now (omega (arith, c.loop-place.invariant.count, c.if-from-count.true))))
 
 pub loop-place-preserved : goal.loop-place-preserved
 loop-place-preserved c =
-    let around = c.loop-place.self-inside.around in
-    let rest = drop c.loop-place.from c.loop-place.self-inside.segments.now in record {
-      left = c.loop-place.invariant.left ∙ filter-append (is_near around) c.loop-place.here.now rest
-          ∙ ap (λ xs. xs ++ filter (is_near around) rest) (none_at (is_near around) c.loop-place.here.now (sym c.first_answer.ensures.place ∙ c.in_default.is))
-          ∙ part_kept (is_near around) c.loop-place.self-inside.segments.now c.loop-place.from c.part_from-place.result.0 c.part_from-place.result.1.now c.part_from-place.ensures;
-      within = c.part_from-place.ensures.within c.loop-place.invariant.within;
+    let w = c.self.inside.wanted in
+    let all = c.self.inside.segments.now in
+    let part = c.part_from-place.result.1.now in
+    let after : ℕ = c.part_from-place.result.0 + length part in record {
+      asked = c.loop-place.invariant.asked;
+      left = part_next w c.args.self.now.left c.loop-place.here.now (drop c.loop-place.from all) (all_near (part ++ drop after all) w.around) c.loop-place.at
+          c.loop-place.invariant.left c.in_default.ensures.passed (part_kept (is_near w.around) all c.loop-place.from c.part_from-place.result.0 part c.part_from-place.ensures.part);
+      sifted = c.part_from-place.ensures.sifted;
+      wanted = c.loop-place.invariant.wanted;
+      segments = c.loop-place.invariant.segments;
+      within = c.part_from-place.ensures.part.within c.loop-place.invariant.within;
       count = c.loop-place.invariant.count;
-      few = omega (arith, c.part_from-place.ensures.within c.loop-place.invariant.within, c.loop-place.invariant.count, c.len-count.type_inv);
     }
-
-pub overflow_cast-from : goal.overflow_cast-from
-overflow_cast-from c = omega (arith, c.part_from-place.ensures.within c.loop-place.invariant.within, c.loop-place.invariant.count, c.len-count.type_inv)
-
-pub overflow_add-from : goal.overflow_add-from
-overflow_add-from c = omega (arith, c.part_from-place.ensures.within c.loop-place.invariant.within, c.loop-place.invariant.count, c.len-count.type_inv)
-
-pub loop-place-smaller : goal.loop-place-smaller
-loop-place-smaller c =
-    omega (
-      arith,
-      c.if-from-count.false,
-      c.loop-place.invariant.count,
-      c.part_from-place.ensures.on (omega (arith, c.if-from-count.false, c.loop-place.invariant.count)),
-      c.part_from-place.ensures.within c.loop-place.invariant.within,
-    )

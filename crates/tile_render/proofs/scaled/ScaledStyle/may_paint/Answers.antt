@@ -10,4 +10,4 @@ returns-else-not-self c none =
     fills_leave (λ r. r.now) c.args.w c.args.self.now c.args.shared.now c.self.inside.rules.items
     (c.self.invariant.0 ∙ ap (λ (s : Scaled). filter (at_scale s.denominator) s.style.rules) c.self.view_is)
     (sym c.self.invariant.2 ∙ c.if-not-self.false)
-    (subst (HasNoCentre c.args.w) c.bbox.ensures.value (c.may_have_centre.ensures none))
+    (subst (HasNoCentre c.args.w) c.bbox.ensures (c.may_have_centre.ensures none))
