@@ -9,14 +9,16 @@ use Rattle.std.proofs.lemmas.List.{length-replicate, get_or_read, get_or-replica
 use Rattle.attribute_marks.specs.Marks.{Shares}
 use Rattle.plain_shapes.specs.Features.{Feature}
 use Rattle.geo_model.specs.declared.bounds.Bounds.{Bounds}
-use Rattle.geo_model.specs.Bounds.{meets}
+use Rattle.geo_model.specs.Bounds.{meets, Within}
 use Rattle.data_versions.specs.Near.{box_of, is_near, IsUnasked}
+use Rattle.data_versions.specs.declared.extent.Extent.{Extent}
 use Rattle.data_versions.specs.declared.sieve.Sieve.{Sieve}
 use Rattle.data_versions.specs.declared.question.Wanted.{Wanted}
 use Rattle.data_versions.specs.declared.question.Question.{Question}
 use Rattle.data_versions.specs.declared.question.Question.TheVariants.{HasId, IsNear}
 use Rattle.data_versions.specs.inner.Grids.{scale_of, part_of, on_grid, grid_meets}
-use Rattle.data_versions.specs.inner.Sieves.{box_at, IsSeen, IsSieve, IsSifted, Sifts}
+use Rattle.data_versions.specs.inner.Extents.{IsIn}
+use Rattle.data_versions.specs.inner.Sieves.{box_at, HasPoint, IsSeen, IsSieve, IsMarked, Sifts}
 
 quotient_grows : (m n k : ℕ) → 0 < k → m ≤ n → m / k ≤ n / k
 quotient_grows m n k some h = le-div (m / k) n k some (omega (arith, div-mul-le_self m k))
@@ -51,10 +53,23 @@ pub none_near : (s : Sieve) (features : List Feature) (around : Bounds) → IsSi
     → ((k : ℕ) → k < 64 → grid_meets (box_at s k) (on_grid s.grid around) ≡ false) → All (λ f. is_near around f ≡ false) features
 none_near s features around sieve apart k d small = seen_apart s k (get_or features k d) around (sieve.each k d small) (apart k (omega (arith, sieve.few)))
 
+-- a box that has a point and lies in another one meets each one in which that lies
+within_meets : (inner box around : Bounds) → HasPoint inner → Within inner box → Within box around → meets inner around ≡ true
+within_meets inner box around some in_box in_around =
+    both inner.west around.east around.west inner.east inner.north around.south around.north inner.south (omega (arith, some.across, in_box.east, in_around.east))
+    (omega (arith, some.across, in_box.west, in_around.west)) (omega (arith, some.down, in_box.south, in_around.south))
+    (omega (arith, some.down, in_box.north, in_around.north))
+
+-- features that have points are near each rectangle in which their extent lies
+pub all_within : (e : Extent) (s : Sieve) (features : List Feature) (around : Bounds) → All (IsIn e) features → IsSieve s features → s.have_points ≡ true
+    → Within e.bounds around → All (λ f. is_near around f ≡ true) features
+all_within e s features around ins sieve said inside k d small =
+    within_meets (box_of (get_or features k d)) e.bounds around ((sieve.each k d small).point said) (ins k d small).within inside
+
 -- ---- what is sifted
 
 pub boxes_sift : (s : Sieve) (features : List Feature) (w : Wanted) (sifted : List Bool) → IsSieve s features → length sifted ≡ 64
-    → ((k : ℕ) → k < 64 → get_or sifted k true ≡ false → grid_meets (box_at s k) (on_grid s.grid w.around) ≡ false) → IsSifted w sifted features
+    → ((k : ℕ) → k < 64 → get_or sifted k true ≡ false → grid_meets (box_at s k) (on_grid s.grid w.around) ≡ false) → IsMarked w sifted features
 boxes_sift s features w sifted sieve long apart = record {
   few = sieve.few;
   long = long;
@@ -63,7 +78,7 @@ boxes_sift s features w sifted sieve long apart = record {
 
 pub marks_sift : (s : Sieve) (features : List Feature) (w : Wanted) (asked : ℕ) (old new : List Bool) → IsSieve s features → w.asked ≡ Some asked → length new ≡ 64
     → ((k : ℕ) → k < 64 → get_or old k true ≡ false → grid_meets (box_at s k) (on_grid s.grid w.around) ≡ false)
-    → ((k : ℕ) → k < 64 → get_or new k true ≡ false → (get_or old k true ≡ false) ⊎ (Shares (get_or s.marks k 0) asked → ⊥)) → IsSifted w new features
+    → ((k : ℕ) → k < 64 → get_or new k true ≡ false → (get_or old k true ≡ false) ⊎ (Shares (get_or s.marks k 0) asked → ⊥)) → IsMarked w new features
 marks_sift s features w asked old new sieve is long apart none = record {
   few = sieve.few;
   long = long;
@@ -83,10 +98,14 @@ seen_more old new features k f small at seen kept before j d below = elim (cases
 ]
 
 -- where all are marked, none is passed wrongly
-pub all_sift : (q : Question) (features : List Feature) → length features ≤ 64 → Sifts q (replicate 64 true) features
+pub all_sift : (q : Question) (features : List Feature) → length features ≤ 64
+    → Sifts q (record { may = replicate 64 true; are_near = false }) features
 all_sift (HasId id) features few = tt
 all_sift (IsNear w) features few = record {
-  few = few;
-  long = length-replicate 64 true;
-  each = λ k d small off. absurd (true≢false (sym (get_or-replicate 64 k true true (omega arith)) ∙ off));
+  marked = record {
+    few = few;
+    long = length-replicate 64 true;
+    each = λ k d small off. absurd (true≢false (sym (get_or-replicate 64 k true true (omega arith)) ∙ off));
+  };
+  near = λ said. absurd (true≢false (sym said));
 }

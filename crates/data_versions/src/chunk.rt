@@ -1,6 +1,7 @@
 //! A chunk of a layer: features that snapshots share.
 ghost use Rattle.std.specs.Prelude.{◌≡◌, ◌≤◌, true, false, length, All, IfOk};
 ghost use Rattle.plain_shapes.specs.Features.{Feature};
+ghost use Rattle.data_versions.specs.Near.{is_near};
 ghost use Rattle.data_versions.specs.inner.Extents.{IsIn};
 ghost use Rattle.data_versions.specs.inner.Sieves.{Sifts};
 
@@ -10,6 +11,7 @@ use crate::question::Question;
 use crate::shared::SharedFeature;
 use crate::sieve::{ALL_SIFTED, MOST_TOGETHER, Sieve, Sifted};
 use farm_base::NoMemory;
+use geo_model::Bounds;
 use std::alloc::Global;
 use std::marker::Model;
 use std::sync::Arc;
@@ -106,12 +108,22 @@ impl Chunk {
         self.features.as_slice()
     }
 
+    // Whether all of the features are known to be near the rectangle, since they lie in it.
+    fn are_near(&self, around: Bounds) -> bool
+        ensures { result ≡ true → All (λ f. is_near around f ≡ true) self.now }
+    {
+        self.sieve.have_points() && self.extent.is_within(&around)
+    }
+
     // Which of the features may be looked for.
     fn sifted(&self, question: Question) -> Sifted
         ensures { Sifts question result self.now }
     {
         match question {
-            Question::IsNear(wanted) => self.sieve.sift(wanted),
+            Question::IsNear(wanted) => Sifted {
+                may: self.sieve.sift(wanted),
+                are_near: self.are_near(wanted.around),
+            },
             Question::HasId(_) => ALL_SIFTED,
         }
     }

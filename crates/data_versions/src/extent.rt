@@ -1,6 +1,7 @@
 //! Between which ids and in which box features lie.
-ghost use Rattle.std.specs.Prelude.{◌≡◌, false, All};
+ghost use Rattle.std.specs.Prelude.{◌≡◌, true, false, All};
 ghost use Rattle.plain_shapes.specs.Features.{Feature};
+ghost use Rattle.geo_model.specs.Bounds.{Within};
 ghost use Rattle.data_versions.specs.inner.Extents.{IsIn, Holds};
 ghost use Rattle.data_versions.specs.inner.Questions.{answers};
 
@@ -46,6 +47,17 @@ impl Extent {
                 south: old.south.max(new.south),
             },
         }
+    }
+
+    /// Whether the box lies in the rectangle.
+    pub(crate) fn is_within(&self, around: &Bounds) -> bool
+        ensures { result ≡ true → Within self.now.bounds around.now }
+    {
+        let own = self.bounds;
+        around.west <= own.west
+            && around.north <= own.north
+            && own.east <= around.east
+            && own.south <= around.south
     }
 
     /// Whether a feature within may answer the question; if not, none does.

@@ -3,7 +3,8 @@
 //! What is proved: `apply` is the list of changes, or its first fault; a `LayerView` is its layer's list, whatever
 //! chunks it is kept in; a `Snapshot` says of its layers that they are valid data (`finders`), and a `LayerFinder`
 //! finds the features of its layer by their ids, whether by a table or not; a walk over the features `near` a rectangle
-//! gives those of that list, in order, and leaves out none but such as have none of the marks that it asks for. That an update shares the chunks that it leaves alone is in no contract.
+//! gives those of that list, in order, and leaves out none but such as have none of the marks that it asks for. That an
+//! update shares the chunks that it leaves alone is in no contract.
 #![tactic(auto)]
 
 mod block;

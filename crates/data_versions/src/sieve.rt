@@ -3,7 +3,7 @@ ghost use Rattle.std.specs.Prelude.{◌≡◌, ◌≤◌, ◌<◌, ◌⊎◌, �
 ghost use Rattle.attribute_marks.specs.Marks.{Shares};
 ghost use Rattle.plain_shapes.specs.Features.{Feature};
 ghost use Rattle.data_versions.specs.inner.Grids.{on_grid, grid_meets};
-ghost use Rattle.data_versions.specs.inner.Sieves.{box_at, IsLong, IsSeen, IsSieve, IsSifted};
+ghost use Rattle.data_versions.specs.inner.Sieves.{box_at, HasPoint, IsLong, IsSeen, IsSieve, IsMarked};
 
 use crate::grid::{Grid, GridBox};
 use crate::question::Wanted;
@@ -15,10 +15,31 @@ use geo_model::Bounds;
 pub(crate) const MOST_TOGETHER: usize = 64;
 
 /// For each feature of a chunk whether it may be looked for.
-pub(crate) type Sifted = [bool; MOST_TOGETHER];
+pub(crate) type Marked = [bool; MOST_TOGETHER];
 
-/// All may be looked for.
-pub(crate) const ALL_SIFTED: Sifted = [true; MOST_TOGETHER];
+// All may be looked for.
+const ALL_MARKED: Marked = [true; MOST_TOGETHER];
+
+/// Which features of a chunk may be looked for, and whether all of them are known to be near the rectangle, so that none
+/// of their boxes is read.
+#[derive(Clone, Copy)]
+pub(crate) struct Sifted {
+    pub may: Marked,
+    pub are_near: bool,
+}
+
+/// All may be looked for, and of none it is known that it is near.
+pub(crate) const ALL_SIFTED: Sifted = Sifted {
+    may: ALL_MARKED,
+    are_near: false,
+};
+
+// Whether the box has a point: that of a feature without points has none.
+fn has_point(b: Bounds) -> bool
+    ensures { result ≡ true → HasPoint b }
+{
+    b.west <= b.east && b.north <= b.south
+}
 
 /// The boxes of some features in parts of a box, and the marks of their attributes: those of the k-th feature are the
 /// k-th of each list. They stand side by side, so that all are asked at once, and no feature is read for it: 12 bytes each.
@@ -30,6 +51,7 @@ pub(crate) struct Sieve {
     east: [u8; MOST_TOGETHER],
     south: [u8; MOST_TOGETHER],
     marks: [u64; MOST_TOGETHER],
+    have_points: bool,
 }
 
 impl Sieve {
@@ -44,6 +66,7 @@ impl Sieve {
             east: [0u8; MOST_TOGETHER],
             south: [0u8; MOST_TOGETHER],
             marks: [0u64; MOST_TOGETHER],
+            have_points: true,
         }
     }
 
@@ -60,6 +83,7 @@ impl Sieve {
         self.east[k] = place.east;
         self.south[k] = place.south;
         self.marks[k] = feature.marks();
+        self.have_points = self.have_points && has_point(feature.bbox());
     }
 
     /// The sieve of the features, which lie best in the box.
@@ -85,7 +109,15 @@ impl Sieve {
             east: self.east,
             south: self.south,
             marks: self.marks,
+            have_points: self.have_points,
         }
+    }
+
+    /// Whether the box of each feature has a point.
+    pub(crate) fn have_points(&self) -> bool
+        ensures { result ≡ self.now.have_points }
+    {
+        self.have_points
     }
 
     fn box_at(&self, k: usize) -> GridBox
@@ -115,14 +147,14 @@ impl Sieve {
         found
     }
 
-    fn sift_boxes(&self, around: Bounds) -> Sifted
+    fn sift_boxes(&self, around: Bounds) -> Marked
         requires { IsLong self.now }
         ensures long { length result ≡ 64 }
         ensures sifted { (k : ℕ) → k < 64 → get_or result k true ≡ false
             → grid_meets (box_at self.now k) (on_grid self.now.grid around) ≡ false }
     {
         let wanted = self.grid.place(around);
-        let mut sifted = ALL_SIFTED;
+        let mut sifted = ALL_MARKED;
         for k in 0..MOST_TOGETHER {
             sifted[k] = self.box_at(k).meets(wanted);
         }
@@ -130,7 +162,7 @@ impl Sieve {
     }
 
     // Takes out those of which no attribute has one of the marks.
-    fn sift_marks(&self, asked: u64, sifted: &mut Sifted)
+    fn sift_marks(&self, asked: u64, sifted: &mut Marked)
         requires long { IsLong self.now }
         requires sifted { length sifted.old ≡ 64 }
         ensures long { length sifted.new ≡ 64 }
@@ -143,10 +175,10 @@ impl Sieve {
     }
 
     /// Which of the features may be wanted: the others are not near, or have none of the marks.
-    pub(crate) fn sift(&self, wanted: Wanted) -> Sifted
+    pub(crate) fn sift(&self, wanted: Wanted) -> Marked
         requires { IsLong self.now }
         ensures { (features : List Feature) → IsSieve self.now features
-            → IsSifted wanted result features }
+            → IsMarked wanted result features }
     {
         let mut sifted = self.sift_boxes(wanted.around);
         if let Some(asked) = wanted.asked {

@@ -53,7 +53,7 @@ fn next_wanted(
     ensures passed { (k : ℕ) (d : Feature) → at ≤ k → k < unwrap_or result (length here.now) → IsPassed wanted (get_or here.now k d) }
 {
     while at < here.len() {
-        if sifted[at] && here[at].bbox().meets(&wanted.around) {
+        if sifted.may[at] && (sifted.are_near || here[at].bbox().meets(&wanted.around)) {
             return Some(at);
         }
         at += 1;

@@ -56,13 +56,18 @@ fn name_number(feature: &Feature, distance: Distance) -> u64 {
     }
 }
 
+// A number of the first point and of the last: those of a short path lie on their two lines of memory.
+fn ends_number(points: &[Point]) -> u64 {
+    match (points.first(), points.last()) {
+        (Some(first), Some(last)) => u64::from(first.x).saturating_add(u64::from(last.x)),
+        _ => 0,
+    }
+}
+
 fn shape_number(feature: &Feature, distance: Distance) -> u64 {
     let points = first_points(feature);
     match distance {
-        Distance::Ends => match points.first() {
-            Some(point) => u64::from(point.x),
-            None => 0,
-        },
+        Distance::Ends => ends_number(points),
         _ => points.len() as u64,
     }
 }

@@ -3,8 +3,10 @@ use Rattle.std.specs.Prelude.{◌≡◌, ◌⊎◌, ◌≤◌, ◌<◌, ⊤, ℕ
 use Rattle.attribute_marks.specs.Marks.{HasMarks}
 use Rattle.plain_shapes.specs.Features.{Feature}
 use Rattle.data_versions.specs.Near.{box_of, is_near, IsUnasked}
+use Rattle.geo_model.specs.declared.bounds.Bounds.{Bounds}
 use Rattle.data_versions.specs.declared.grid.GridBox.{GridBox}
 use Rattle.data_versions.specs.declared.sieve.Sieve.{Sieve}
+use Rattle.data_versions.specs.declared.sieve.Sifted.{Sifted}
 use Rattle.data_versions.specs.declared.question.Wanted.{Wanted}
 use Rattle.data_versions.specs.declared.question.Question.{Question}
 use Rattle.data_versions.specs.declared.question.Question.TheVariants.{HasId, IsNear}
@@ -19,6 +21,11 @@ box_at s k = record {
   south = get_or s.south k 0;
 }
 
+-- the box has a point
+pub record HasPoint (b : Bounds) : Type 0 where
+  pub across : b.west ≤ b.east
+  pub down : b.north ≤ b.south
+
 -- there are 64 of each
 pub record IsLong (s : Sieve) : Type 0 where
   pub west : length s.west ≡ 64
@@ -27,10 +34,12 @@ pub record IsLong (s : Sieve) : Type 0 where
   pub south : length s.south ≡ 64
   pub marks : length s.marks ≡ 64
 
--- the k-th box and the k-th marks are those of the feature
+-- the k-th box and the k-th marks are those of the feature, and its box has a point if all are
+-- said to have one
 pub record IsSeen (s : Sieve) (k : ℕ) (f : Feature) : Type 0 where
   pub box : box_at s k ≡ on_grid s.grid (box_of f)
   pub marks : HasMarks (get_or s.marks k 0) f.attrs
+  pub point : s.have_points ≡ true → HasPoint (box_of f)
 
 -- the boxes and the marks are those of the features, in order
 pub record IsSieve (s : Sieve) (features : List Feature) : Type 0 where
@@ -43,13 +52,19 @@ abbrev pub IsPassed : Wanted → Feature → Type 0
 IsPassed w f = (is_near w.around f ≡ false) ⊎ IsUnasked w.asked f
 
 -- of the features, 64 at most, one that is not marked is passed
-pub record IsSifted (w : Wanted) (sifted : List Bool) (features : List Feature) : Type 0 where
+pub record IsMarked (w : Wanted) (may : List Bool) (features : List Feature) : Type 0 where
   pub few : length features ≤ 64
-  pub long : length sifted ≡ 64
-  pub each : (k : ℕ) (d : Feature) → k < length features → get_or sifted k true ≡ false
+  pub long : length may ≡ 64
+  pub each : (k : ℕ) (d : Feature) → k < length features → get_or may k true ≡ false
       → IsPassed w (get_or features k d)
 
+-- one that is not marked is passed, and all are near if it is said so
+pub record IsSifted (w : Wanted) (sifted : Sifted) (features : List Feature) : Type 0 where
+  pub marked : IsMarked w sifted.may features
+  pub near : sifted.are_near ≡ true → (k : ℕ) (d : Feature) → k < length features
+      → is_near w.around (get_or features k d) ≡ true
+
 -- where near features are looked for, one that is not marked is passed
-abbrev pub Sifts : Question → List Bool → List Feature → Type 0
+abbrev pub Sifts : Question → Sifted → List Feature → Type 0
 Sifts (HasId id) sifted features = ⊤
 Sifts (IsNear w) sifted features = IsSifted w sifted features

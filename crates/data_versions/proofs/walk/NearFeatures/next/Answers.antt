@@ -6,10 +6,10 @@ use Rattle.data_versions.proofs.Walks.{part_next, found_next, at_end}
 use Rattle.data_versions.proofs.walk.NearFeatures.next.Goals as goal
 
 pub overflow_add-self : goal.overflow_add-self
-overflow_add-self c = omega (arith, c.in-Some.ensures.place.1, c.loop-place.invariant.sifted.few)
+overflow_add-self c = omega (arith, c.in-Some.ensures.place.1, c.loop-place.invariant.sifted.marked.few)
 
 pub offset_bounds-here-place : goal.offset_bounds-here-place
-offset_bounds-here-place c = omega (arith, c.in-Some.ensures.place.1, c.loop-place.invariant.sifted.few)
+offset_bounds-here-place c = omega (arith, c.in-Some.ensures.place.1, c.loop-place.invariant.sifted.marked.few)
 
 pub invariant_of-self : goal.invariant_of-self
 invariant_of-self c =
@@ -26,7 +26,13 @@ returns-in-Some c =
 pub invariant_of-self-then-from-count : goal.invariant_of-self-then-from-count
 invariant_of-self-then-from-count c =
     rw (c.loop-place.invariant.wanted, c.loop-place.invariant.segments)
-    ((c.loop-place.invariant.within, record { few = omega arith; long = c.loop-place.invariant.sifted.long; each = λ k d small off. absurd (omega arith) }))
+    ((
+      c.loop-place.invariant.within,
+      record {
+        marked = record { few = omega arith; long = c.loop-place.invariant.sifted.marked.long; each = λ k d small off. absurd (omega arith) };
+        near = λ said k d small. absurd (omega arith);
+      },
+    ))
 
 pub returns-then-from-count : goal.returns-then-from-count
 returns-then-from-count c =
